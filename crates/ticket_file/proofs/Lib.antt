@@ -1,0 +1,6 @@
+mod Unique
+mod Fronts
+mod Orders
+mod Steps
+mod Whole
+pub mod Verdicts
