@@ -1,6 +1,7 @@
-mod Unique
+pub mod Unique
 mod Fronts
 mod Orders
 mod Steps
 mod Whole
 pub mod Verdicts
+pub mod Judged

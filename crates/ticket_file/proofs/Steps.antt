@@ -23,8 +23,12 @@ use Rattle.ticket_file.specs.Readings.{plain, Spot, spot, Decoded, Undecoded, 
 use Rattle.ticket_file.proofs.Orders.{follows-begin, unended}
 use Rattle.ticket_file.proofs.Verdicts.{Ill, refuses, whole-record, first-is, long-is}
 
+-- the judge that refuses nothing has no numbers
+pub no-numbers : (e : ⊥) → 7 < no-judge e .number
+no-numbers e = absurd e
+
 pub upto : (file : List ℕ) (p : ℕ) (s : Stage) (rs : List Rec) → Sofar file p s rs → Upto no-judge file p rs
-upto file p s rs r = record { within = r .within; is = r .is; fit = r .fit; begins = follows-begin s (kinds rs) (r .follows); taken = λ _ _ _ _ e _. absurd e }
+upto file p s rs r = record { small = r .small; within = r .within; is = r .is; fit = r .fit; begins = follows-begin s (kinds rs) (r .follows); taken = λ _ _ _ _ e _. absurd e }
 
 -- no record is read yet
 pub opened : (file rest : List ℕ) → file ≡ header ++ rest → length file ≤ 32768 → Sofar file 5 Tickets []
@@ -53,7 +57,7 @@ module _ (file : List ℕ) (p k : ℕ) (b : List ℕ) (h : Framed file p k b) wh
   room-at = sym (length-drop p file) ∙ ap length (h .is) ∙ omega (arith, length-append b (h .more))
 
 -- nothing with a number below n, as far as it is told
-lower : (file : List ℕ) (p : ℕ) (rs : List Rec) (n : ℕ) → n ≤ 7 → (4 < n → Passes-end file p rs → ⊥) → (5 < n → Unknown file p rs → ⊥) → (6 < n → Misfit file p rs → ⊥) → (v : Reason ⊥) → fault no-judge v .number < n → Ill no-judge v file p rs → ⊥
+lower : (file : List ℕ) (p : ℕ) (rs : List Rec) (n : ℕ) → n ≤ 7 → (4 < n → Passes-end file p rs → ⊥) → (5 < n → Unknown file p rs → ⊥) → (6 < n → Misfit file p rs → ⊥) → (v : Reason ⊥) → fault no-judge v .number < n → Ill no-judge no-numbers v file p rs → ⊥
 lower file p rs n le past unknown misfit (form TooLong) lt b = b
 lower file p rs n le past unknown misfit (form NotATicketFile) lt b = b
 lower file p rs n le past unknown misfit (form OtherVersion) lt b = b
@@ -79,8 +83,8 @@ module _ (file : List ℕ) (p : ℕ) (s : Stage) (rs : List Rec) (r : Sofar file
       front : take (length (bytes q)) (drop p file) ≡ bytes q
       front = ap (take (length (bytes q))) (h .is) ∙ take-at (bytes q) (h .rest) _ refl
 
-  faulty : (e : FileRefusal) → Ill no-judge (form e) file p rs → ((v : Reason ⊥) → fault no-judge v .number < fault no-judge (form e) .number → Ill no-judge v file p rs → ⊥) → Faulty no-judge file (form e) p
-  faulty e b none = refuses no-judge file p rs (r .small) (upto file p s rs r) (form e) b none
+  faulty : (e : FileRefusal) → Ill no-judge no-numbers (form e) file p rs → ((v : Reason ⊥) → fault no-judge v .number < fault no-judge (form e) .number → Ill no-judge no-numbers v file p rs → ⊥) → Faulty no-judge file (form e) p
+  faulty e b none = refuses no-judge no-numbers file p rs (upto file p s rs r) (form e) b none
 
   -- the record at p passes the end
   pub past-end : (e : FileRefusal) → p < length file → (rest : List ℕ) → rest ≡ take (length file - p) (drop p file) → (e ≡ PastEnd) × (length rest < 2 + getD rest 1 0) → Faulty no-judge file (form e) p
@@ -106,7 +110,7 @@ module _ (file : List ℕ) (p : ℕ) (s : Stage) (rs : List Rec) (r : Sofar file
   -- the record at p is out of its order
   pub disordered : (q : Rec) → Lies file p q → (Begins (kinds rs ++ kind q ∷ []) → ⊥) → Faulty no-judge file (form OutOfOrder) p
   disordered q h out =
-      faulty OutOfOrder (inl (omega (arith, long-is file p q h), λ o. out (subst (λ k. Begins (kinds rs ++ k ∷ [])) (first-is file p q h) o))) (λ v lt b. whole-record no-judge file p rs q h v lt b)
+      faulty OutOfOrder (inl (omega (arith, long-is file p q h), λ o. out (subst (λ k. Begins (kinds rs ++ k ∷ [])) (first-is file p q h) o))) (λ v lt b. whole-record no-judge no-numbers file p rs q h v lt b)
 
   -- the file ends before its ceiling
   pub unfinished : length file ≤ p → s ≡ Tickets → Faulty no-judge file (form OutOfOrder) p

@@ -40,22 +40,22 @@ module _ (file : List ℕ) (p : ℕ) (r : Rec) (h : Lies file p r) where
 same-record : (file : List ℕ) (p : ℕ) (r q : Rec) → Lies file p r → Lies file p q → q ≡ r
 same-record file p r q h k = sym (prefix-free r q (h .rest) (k .rest) (sym (h .is) ∙ k .is) .0)
 
-all-mid : (rs more : List Rec) (r : Rec) → All Fit (rs ++ r ∷ more) → Fit r
+pub all-mid : (rs more : List Rec) (r : Rec) → All Fit (rs ++ r ∷ more) → Fit r
 all-mid [] more r h = h .0
 all-mid (x ∷ rs) more r h = all-mid rs more r (h .1)
 
-all-front : (rs more : List Rec) → All Fit (rs ++ more) → All Fit rs
+pub all-front : (rs more : List Rec) → All Fit (rs ++ more) → All Fit rs
 all-front [] more h = tt
 all-front (x ∷ rs) more h = (h .0, all-front rs more (h .1))
 
-begins-mid : (rs more : List Rec) (r : Rec) → Begins (kinds (rs ++ r ∷ more)) → Begins (kinds rs ++ kind r ∷ [])
+pub begins-mid : (rs more : List Rec) (r : Rec) → Begins (kinds (rs ++ r ∷ more)) → Begins (kinds rs ++ kind r ∷ [])
 begins-mid rs more r (ks, (m, n, e)) =
     (kinds more ++ ks, (m, n, append-assoc (kinds rs) (kind r ∷ []) (kinds more ++ ks) ∙ sym (append-assoc (kinds rs) (kind r ∷ kinds more) ks) ∙ ap (λ l. l ++ ks) (sym (map-append kind rs (r ∷ more))) ∙ e))
 
-begins-front : (rs more : List Rec) → Begins (kinds (rs ++ more)) → Begins (kinds rs)
+pub begins-front : (rs more : List Rec) → Begins (kinds (rs ++ more)) → Begins (kinds rs)
 begins-front rs more (ks, (m, n, e)) = (kinds more ++ ks, (m, n, sym (append-assoc (kinds rs) (kinds more) ks) ∙ ap (λ l. l ++ ks) (sym (map-append kind rs more)) ∙ e))
 
-form-low : {E : Type 0} (j : Judge E) (f : FileRefusal) → fault j (form f) .number ≤ 7
+pub form-low : {E : Type 0} (j : Judge E) (f : FileRefusal) → fault j (form f) .number ≤ 7
 form-low j TooLong = omega arith
 form-low j NotATicketFile = omega arith
 form-low j OtherVersion = omega arith
@@ -64,7 +64,8 @@ form-low j UnknownKind = omega arith
 form-low j BodyLength = omega arith
 form-low j OutOfOrder = omega arith
 
-module _ {E : Type 0} (j : Judge E) where
+-- the numbers of the judge come after those of a file's form
+module _ {E : Type 0} (j : Judge E) (later : (e : E) → 7 < j e .number) where
   -- what is wrong after rs; what is wrong with the header is not
   abbrev pub Ill : Reason E → List ℕ → ℕ → List Rec → Type 0
   Ill (form TooLong) file p rs = ⊥
@@ -106,7 +107,7 @@ module _ {E : Type 0} (j : Judge E) where
   headed file rest small e (form UnknownKind) p lt m = omega arith
   headed file rest small e (form BodyLength) p lt m = omega arith
   headed file rest small e (form OutOfOrder) p lt m = omega arith
-  headed file rest small e (contents c) p lt m = omega (arith, j .later c)
+  headed file rest small e (contents c) p lt m = omega (arith, later c)
 
   module _ (file : List ℕ) (p : ℕ) (rs : List Rec) (r : Rec) (h : Lies file p r) where
     -- nothing below the order is wrong with a whole record
@@ -118,13 +119,13 @@ module _ {E : Type 0} (j : Judge E) where
     whole-record (form UnknownKind) lt b = b .1 r (sym (first-is file p r h))
     whole-record (form BodyLength) lt b = b .1 r (h .fit) (sym (first-is file p r h)) (omega (arith, second-is file p r h))
     whole-record (form OutOfOrder) lt b = omega arith
-    whole-record (contents e) lt b = omega (arith, j .later e)
+    whole-record (contents e) lt b = omega (arith, later e)
 
     in-order : Begins (kinds rs ++ kind r ∷ []) → Disordered file p rs → ⊥
     in-order o b = ⊎-elim (λ x. x .1 (subst (λ k. Begins (kinds rs ++ k ∷ [])) (sym (first-is file p r h)) o)) (λ x. omega (arith, long-is file p r h, x .0)) b
 
     -- nothing of form is wrong with a whole record that comes in order, and the contents are judged
-    placed-well : Begins (kinds rs ++ kind r ∷ []) → (w : Reason E) → ((e : E) → fault j (contents e) .number ≡ fault j w .number → j .refusal e .meets (rs, r) → ⊥) → Ill w file p rs → ⊥
+    placed-well : Begins (kinds rs ++ kind r ∷ []) → (w : Reason E) → ((e : E) → fault j (contents e) .number ≡ fault j w .number → j e .meets (rs, r) → ⊥) → Ill w file p rs → ⊥
     placed-well o (form TooLong) c b = b
     placed-well o (form NotATicketFile) c b = b
     placed-well o (form OtherVersion) c b = b
@@ -132,7 +133,7 @@ module _ {E : Type 0} (j : Judge E) where
     placed-well o (form UnknownKind) c b = whole-record (form UnknownKind) (omega arith) b
     placed-well o (form BodyLength) c b = whole-record (form BodyLength) (omega arith) b
     placed-well o (form OutOfOrder) c b = in-order o b
-    placed-well o (contents e) c (q, l, m) = c e refl (subst (λ x. j .refusal e .meets (rs, x)) (same-record file p r q h l) m)
+    placed-well o (contents e) c (q, l, m) = c e refl (subst (λ x. j e .meets (rs, x)) (same-record file p r q h l) m)
 
   -- where rs are followed by more records, nothing is wrong after rs
   goes-on : (file : List ℕ) (p q : ℕ) (rs qs : List Rec) (w : Reason E) → Upto j file q qs → Ill w file p rs → Longer rs qs (drop p file) (drop q file) → rs ≡ qs
@@ -159,8 +160,8 @@ module _ {E : Type 0} (j : Judge E) where
       ⊎-elim (λ h. goes-on file p q rs qs w t b h) (λ h. sym (goes-on file q p qs rs v u c h)) (met file p q rs qs u t)
 
   -- what is wrong after rs with the lowest number is the file's fault
-  pub refuses : (file : List ℕ) (p : ℕ) (rs : List Rec) → length file ≤ 32768 → Upto j file p rs → (w : Reason E) → Ill w file p rs → ((v : Reason E) → fault j v .number < fault j w .number → Ill v file p rs → ⊥) → Faulty j file w p
-  refuses file p rs small u w b none = record { meets = here file p rs u w b; first = λ v q lt m. ⊎-elim (λ low. headed file _ small (parts file p rs (u .is)) v q low m) (λ a. elsewhere v q lt a) (split file v q m) }
+  pub refuses : (file : List ℕ) (p : ℕ) (rs : List Rec) → Upto j file p rs → (w : Reason E) → Ill w file p rs → ((v : Reason E) → fault j v .number < fault j w .number → Ill v file p rs → ⊥) → Faulty j file w p
+  refuses file p rs u w b none = record { meets = here file p rs u w b; first = λ v q lt m. ⊎-elim (λ low. headed file _ (u .small) (parts file p rs (u .is)) v q low m) (λ a. elsewhere v q lt a) (split file v q m) }
     where
       elsewhere : (v : Reason E) (q : ℕ) → fault j v .number < fault j w .number → After j (Ill v) (file, q) → ⊥
       elsewhere v q lt (qs, t, c) =
@@ -169,8 +170,9 @@ module _ {E : Type 0} (j : Judge E) where
           none v lt (subst (λ x. Ill v file x rs) (sym place) (subst (λ l. Ill v file q l) (sym same) c))
 
   -- a whole file whose records the judge takes
-  whole-upto : (file : List ℕ) (rs : List Rec) → Holds file rs → Taken j rs → Upto j file (length file) rs
+  pub whole-upto : (file : List ℕ) (rs : List Rec) → Holds file rs → Taken j rs → Upto j file (length file) rs
   whole-upto file rs h t = record {
+    small = h .small;
     within = omega arith;
     is = take-all (length file) file (omega arith) ∙ h .is;
     fit = h .fit;
@@ -228,24 +230,26 @@ module _ {E : Type 0} (j : Judge E) where
   back BodyLength = refl
   back OutOfOrder = refl
 
-  -- the number tells the reason
-  same-reason : (w v : Reason E) → fault j w .number ≡ fault j v .number → w ≡ v
-  same-reason (form f) (form g) e = ap form (sym (back f) ∙ ap numbered e ∙ back g)
-  same-reason (form f) (contents d) e = absurd (omega (arith, form-low j f, j .later d))
-  same-reason (contents d) (form g) e = absurd (omega (arith, form-low j g, j .later d))
-  same-reason (contents d) (contents c) e = ap contents (j .apart d c e)
+  -- no two refusals of the judge share a number
+  module _ (apart : (d e : E) → j d .number ≡ j e .number → d ≡ e) where
+    -- the number tells the reason
+    same-reason : (w v : Reason E) → fault j w .number ≡ fault j v .number → w ≡ v
+    same-reason (form f) (form g) e = ap form (sym (back f) ∙ ap numbered e ∙ back g)
+    same-reason (form f) (contents d) e = absurd (omega (arith, form-low j f, later d))
+    same-reason (contents d) (form g) e = absurd (omega (arith, form-low j g, later d))
+    same-reason (contents d) (contents c) e = ap contents (apart d c e)
 
-  -- a file has one fault at most
-  pub one-fault : (file : List ℕ) (w v : Reason E) (p q : ℕ) → Faulty j file w p → Faulty j file v q → (w ≡ v) × (p ≡ q)
-  one-fault file w v p q a b =
-      ⊎-elim
-      (λ same.
-          let e = same-reason w v same in
-          (e, one-place file w p q (a .meets) (subst (λ x. fault j x .meets (file, q)) (sym e) (b .meets))))
-      (λ other. absurd (⊎-elim (λ lt. b .first w p lt (a .meets)) (λ lt. a .first v q lt (b .meets)) other))
-      (cases-order (fault j w .number) (fault j v .number))
+    -- a file has one fault at most
+    pub one-fault : (file : List ℕ) (w v : Reason E) (p q : ℕ) → Faulty j file w p → Faulty j file v q → (w ≡ v) × (p ≡ q)
+    one-fault file w v p q a b =
+        ⊎-elim
+        (λ same.
+            let e = same-reason w v same in
+            (e, one-place file w p q (a .meets) (subst (λ x. fault j x .meets (file, q)) (sym e) (b .meets))))
+        (λ other. absurd (⊎-elim (λ lt. b .first w p lt (a .meets)) (λ lt. a .first v q lt (b .meets)) other))
+        (cases-order (fault j w .number) (fault j v .number))
 
   -- the first record that the judge refuses is the file's fault
-  pub refuses-contents : (file : List ℕ) (p : ℕ) (rs : List Rec) (r : Rec) (e : E) → length file ≤ 32768 → Upto j file p rs → Lies file p r → Begins (kinds rs ++ kind r ∷ []) → Answers (j .refusal) (rs, r) e → Faulty j file (contents e) p
-  refuses-contents file p rs r e small u l o a =
-      refuses file p rs small u (contents e) (r, l, a .meets) (λ v lt b. placed-well file p rs r l o v (λ d same m. a .first d (omega arith) m) b)
+  pub refuses-contents : (file : List ℕ) (p : ℕ) (rs : List Rec) (r : Rec) (e : E) → Upto j file p rs → Lies file p r → Begins (kinds rs ++ kind r ∷ []) → Answers j (rs, r) e → Faulty j file (contents e) p
+  refuses-contents file p rs r e u l o a =
+      refuses file p rs u (contents e) (r, l, a .meets) (λ v lt b. placed-well file p rs r l o v (λ d same m. a .first d (omega arith) m) b)

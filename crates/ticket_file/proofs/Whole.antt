@@ -19,7 +19,7 @@ use Rattle.ticket_file.specs.Format.{Rec, bytes, header, file-of, Holds}
 use Rattle.ticket_file.specs.Faults.{no-judge, Taken, Upto, Reason, form, Faulty}
 use Rattle.ticket_file.specs.Readings.{plain, Spot, spot, spots, seen, Ends, Read, Sofar}
 use Rattle.ticket_file.proofs.Unique.{injective}
-use Rattle.ticket_file.proofs.Steps.{opened}
+use Rattle.ticket_file.proofs.Steps.{no-numbers, opened}
 use Rattle.ticket_file.proofs.Verdicts.{place-is, held-is-well, one-fault}
 
 -- the records read up to p, as they are handed out
@@ -55,7 +55,7 @@ complete file x rs are none h = record {
   handed = are;
   ends = subst (Ends file rs) (sym none) h;
   all = λ qs k. (none, injective rs qs (sym (h .is) ∙ k .is));
-  faulty = λ e p f. absurd (held-is-well no-judge file rs h (takes-all rs) (form e) p (f .meets));
+  faulty = λ e p f. absurd (held-is-well no-judge no-numbers file rs h (takes-all rs) (form e) p (f .meets));
 }
 
 -- a fault is found
@@ -64,8 +64,8 @@ faulted file x rs f are some b front = record {
   rs = rs;
   handed = are;
   ends = subst (Ends file rs) (sym some) (b, front);
-  all = λ qs h. absurd (held-is-well no-judge file qs h (takes-all qs) (form (f .refusal)) (f .place) (b .meets));
-  faulty = λ e p g. some ∙ ap Some (same e p (one-fault no-judge file (form (f .refusal)) (form e) (f .place) p b g));
+  all = λ qs h. absurd (held-is-well no-judge no-numbers file qs h (takes-all qs) (form (f .refusal)) (f .place) (b .meets));
+  faulty = λ e p g. some ∙ ap Some (same e p (one-fault no-judge no-numbers (λ e. absurd e) file (form (f .refusal)) (form e) (f .place) p b g));
 }
   where
     same : (e : FileRefusal) (p : ℕ) → (_≡_ {A = Reason ⊥} (form (f .refusal)) (form e)) × (f .place ≡ p) → f ≡ record { refusal = e; place = p }

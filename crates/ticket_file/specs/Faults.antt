@@ -10,23 +10,21 @@ use Rattle.ticket_file.specs.declared.refusal.FileRefusal.{FileRefusal}
 use Rattle.ticket_file.specs.declared.refusal.FileRefusal.the-variants.{TooLong, NotATicketFile, OtherVersion, PastEnd, UnknownKind, BodyLength, OutOfOrder}
 use Rattle.ticket_file.specs.Format.{Rec, kind, bytes, Fit, header, file-of, Whole, Begins, kinds}
 
--- A judge of contents: which records it refuses after which others, and with which numbers. These come after
--- the numbers of a file's form, and no two refusals share one.
-pub record Judge (E : Type 0) : Type 1 where
-  pub refusal : E → Meaning (List Rec × Rec)
-  pub later : (e : E) → 7 < refusal e .number
-  pub apart : (d e : E) → refusal d .number ≡ refusal e .number → d ≡ e
+-- a judge of contents: for each of its refusals the number, and which records it refuses after which others
+abbrev pub Judge : Type 0 → Type 1
+Judge E = E → Meaning (List Rec × Rec)
 
 -- the judge that refuses nothing
 abbrev pub no-judge : Judge ⊥
-no-judge = record { refusal = λ e. absurd e; later = λ e. absurd e; apart = λ e. absurd e }
+no-judge e = absurd e
 
 -- the judge takes each of the records, after those before it
 abbrev pub Taken : {E : Type 0} → Judge E → List Rec → Type 0
-Taken j rs = (before after : List Rec) (r : Rec) → rs ≡ before ++ r ∷ after → Clear (j .refusal) (before, r)
+Taken j rs = (before after : List Rec) (r : Rec) → rs ≡ before ++ r ∷ after → Clear j (before, r)
 
--- the first p bytes of the file are the header and the records rs, in order, and the judge takes them
+-- the file is short enough, its first p bytes are the header and the records rs, in order, and the judge takes them
 pub record Upto {E : Type 0} (j : Judge E) (file : List ℕ) (p : ℕ) (rs : List Rec) : Type 0 where
+  pub small : length file ≤ 32768
   pub within : p ≤ length file
   pub is : take p file ≡ file-of rs
   pub fit : All Fit rs
@@ -57,7 +55,7 @@ Disordered file p rs = ((p < length file) × (Begins (kinds rs ++ getD file p 0 
 
 -- the judge refuses the record at p
 abbrev pub Refused : {E : Type 0} → Judge E → E → List ℕ → ℕ → List Rec → Type 0
-Refused j e file p rs = (r : Rec) × Lies file p r × j .refusal e .meets (rs, r)
+Refused j e file p rs = (r : Rec) × Lies file p r × j e .meets (rs, r)
 
 -- after some records, with which nothing is wrong, this is wrong
 abbrev pub After : {E : Type 0} → Judge E → (List ℕ → ℕ → List Rec → Type 0) → List ℕ × ℕ → Type 0
@@ -78,7 +76,7 @@ fault j (form PastEnd) = record { number = 4; meets = After j Passes-end }
 fault j (form UnknownKind) = record { number = 5; meets = After j Unknown }
 fault j (form BodyLength) = record { number = 6; meets = After j Misfit }
 fault j (form OutOfOrder) = record { number = 7; meets = After j Disordered }
-fault j (contents e) = record { number = j .refusal e .number; meets = After j (Refused j e) }
+fault j (contents e) = record { number = j e .number; meets = After j (Refused j e) }
 
 -- the fault of a file: a reason and a place that it meets, where none with a lower number is met anywhere
 pub record Faulty {E : Type 0} (j : Judge E) (file : List ℕ) (w : Reason E) (p : ℕ) : Type 0 where

@@ -8,10 +8,10 @@ pub mod record;
 pub mod refusal;
 mod stage;
 
-pub use stage::Reading;
-
+pub use reading::read;
 pub use record::Label;
 pub use record::Placed;
 pub use record::Record;
 pub use refusal::FileFault;
 pub use refusal::FileRefusal;
+pub use stage::Reading;

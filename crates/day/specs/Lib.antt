@@ -1,0 +1,4 @@
+pub mod Judging
+pub mod Contents
+pub mod Texts
+pub mod Reports
