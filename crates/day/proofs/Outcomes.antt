@@ -70,8 +70,7 @@ next-record xs k d g h x u ok lt (taken, is) told =
     let more = took .1 in
     let r = plain (getD xs k d .record) in
     let all = take k (recs xs) in
-    subst (λ l. Taken posting l × (h ≡ gather nothing l)) (sym (one-more xs k d lt))
-    (
+    subst (λ l. Taken posting l × (h ≡ gather nothing l)) (sym (one-more xs k d lt)) (
       takes-more posting all r taken (subst (λ x. Clear (judging x) r) is clear),
       more ∙ ap (λ x. with-record x r) is ∙ sym (gather-push nothing all r),
     )

@@ -3,13 +3,11 @@
 //! A file is read, its records are judged and posted in order, and the outcome is a report: the listing of what
 //! was read, or the line of the file's fault.
 
-pub mod contents;
+mod contents;
 pub mod fault;
 pub mod report;
-pub mod text;
+mod text;
 
-pub use contents::Ban;
-pub use contents::Contents;
 pub use fault::Fault;
 pub use fault::Refusal;
 pub use report::Report;

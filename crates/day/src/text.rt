@@ -37,7 +37,7 @@ fn ban_line(heap: Global, ban: Ban) -> Result<String, AllocError>
 }
 
 /// The line of a fault.
-pub fn fault_line(heap: Global, fault: Fault) -> Result<String, AllocError>
+pub(crate) fn fault_line(heap: Global, fault: Fault) -> Result<String, AllocError>
     ensures { λ r. ⌜ made r (λ s. string-bytes s ≡ fault-line (reason (fault .refusal)) (fault .place)) ⌝ }
 {
     let layer = fault.refusal.layer();
@@ -69,7 +69,7 @@ fn push_bans(heap: Global, text: &mut String, bans: &[Ban]) -> Result<(), AllocE
 }
 
 /// The listing of what was read: the ceiling, the rows and the bans.
-pub fn listing(heap: Global, contents: &Contents) -> Result<String, AllocError>
+pub(crate) fn listing(heap: Global, contents: &Contents) -> Result<String, AllocError>
     ensures { λ r. ⌜ made r (λ s. string-bytes s ≡ whole-text (gathered (now (contents .entry)))) ⌝ }
 {
     let mut text = ceiling_line(heap, contents.collection.ceiling())?;

@@ -7,7 +7,9 @@ use std::test::*;
 use ticket_file::Record;
 
 const HEADER: [u8; 5] = [82, 80, 81, 1, 0];
+
 const CEILING: [u8; 6] = [67, 4, 116, 1, 0, 0];
+
 const TICKET: [u8; 7] = [84, 5, 0, 0, 1, 0, 0];
 
 /// The number and the place of a file's fault, or 0 and 0.
@@ -87,7 +89,32 @@ fn tickets(rt: LibcRuntime) -> Result<(), Fail> {
 #[test]
 fn texts(rt: LibcRuntime) -> Result<(), Fail> {
     let heap = rt.alloc();
-    let file = headed(heap, &[84, 5, 0, 10, 5, 10, 0, 67, 4, 116, 1, 0, 0, 66, 2, 2, 8, 66, 2, 0, 255])?;
+    let file = headed(
+        heap,
+        &[
+            84,
+            5,
+            0,
+            10,
+            5,
+            10,
+            0,
+            67,
+            4,
+            116,
+            1,
+            0,
+            0,
+            66,
+            2,
+            2,
+            8,
+            66,
+            2,
+            0,
+            255,
+        ],
+    )?;
     let report = day::report_on(heap, file.as_slice())?;
     check(report.text.as_str() == "ceiling 372\n0 0-10\nban 2 8\nban 0 255\n")?;
     let file = headed(heap, &[67, 4, 0, 0, 0, 1])?;
@@ -100,7 +127,33 @@ fn texts(rt: LibcRuntime) -> Result<(), Fail> {
 #[test]
 fn labels(rt: LibcRuntime) -> Result<(), Fail> {
     let heap = rt.alloc();
-    let file = headed(heap, &[84, 5, 1, 2, 3, 4, 0, 84, 7, 0, 0, 1, 0, 0, 120, 121, 67, 4, 1, 0, 0, 0])?;
+    let file = headed(
+        heap,
+        &[
+            84,
+            5,
+            1,
+            2,
+            3,
+            4,
+            0,
+            84,
+            7,
+            0,
+            0,
+            1,
+            0,
+            0,
+            120,
+            121,
+            67,
+            4,
+            1,
+            0,
+            0,
+            0,
+        ],
+    )?;
     let reading = ticket_file::read(heap, file.as_slice())?;
     check(reading.fault.is_none())?;
     check(reading.records.len() == 3)?;

@@ -91,8 +91,8 @@ module _ {E : Type 0} (j : Judge E) where
         ⊎-elim
         (λ h. absurd (omega (arith, h .0, ap length (u .is), length-take-le p file (u .within))))
         (λ v.
-            let same : rs ≡ qs = injective rs qs (sym (v .is) ∙ u .is) in
-            (qs, judged file p qs u (subst (Taken j) same t), b))
+        let same : rs ≡ qs = injective rs qs (sym (v .is) ∙ u .is) in
+        (qs, judged file p qs u (subst (Taken j) same t), b))
         front
 
     stronger : (f : FileRefusal) → fault no-judge (form f) .meets (file, p) → fault j (form f) .meets (file, p)
@@ -116,6 +116,7 @@ module _ {E : Type 0} (j : Judge E) where
         same-number UnknownKind = refl
         same-number BodyLength = refl
         same-number OutOfOrder = refl
+
         lower : (v : Reason E) (q : ℕ) → fault j v .number < fault j (form f) .number → fault j v .meets (file, q) → ⊥
         lower (form g) q lt m = b .first (form g) q (omega (arith, same-number g, same-number f)) (weaker g file q m)
         lower (contents e) q lt m = omega (arith, later e, form-low j f)

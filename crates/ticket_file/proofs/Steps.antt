@@ -93,6 +93,7 @@ module _ (file : List ℕ) (p : ℕ) (s : Stage) (rs : List Rec) (r : Sofar file
     where
       back : rest ≡ drop p file
       back = same ∙ take-rest file p
+
       bad : length file < p + 2 + getD file (p + 1) 0
       bad = omega (arith, ap length back, length-drop p file, ap (λ l. getD l 1 0) back, getD-drop p file 1 0)
 
@@ -101,11 +102,11 @@ module _ (file : List ℕ) (p : ℕ) (s : Stage) (rs : List Rec) (r : Sofar file
   undecoded k b e h (inl (is, none)) =
       subst (λ x. Faulty no-judge file (form x) p) (sym is)
       (faulty UnknownKind (omega (arith, room-at file p k b h), λ q w. none q (w ∙ kind-at file p k b h))
-        (lower file p rs 5 (omega arith) (λ _ x. omega (arith, x .1, room-at file p k b h, length-at file p k b h)) (λ h _. omega arith) (λ h _. omega arith)))
+      (lower file p rs 5 (omega arith) (λ _ x. omega (arith, x .1, room-at file p k b h, length-at file p k b h)) (λ h _. omega arith) (λ h _. omega arith)))
   undecoded k b e h (inr (is, none, some)) =
       subst (λ x. Faulty no-judge file (form x) p) (sym is)
       (faulty BodyLength (omega (arith, room-at file p k b h), λ q fit w long. none q fit (w ∙ kind-at file p k b h) (long ∙ ap (λ n. 2 + n) (length-at file p k b h)))
-        (lower file p rs 6 (omega arith) (λ _ x. omega (arith, x .1, room-at file p k b h, length-at file p k b h)) (λ _ x. some (λ q w. x .1 q (w ∙ sym (kind-at file p k b h)))) (λ h _. omega arith)))
+      (lower file p rs 6 (omega arith) (λ _ x. omega (arith, x .1, room-at file p k b h, length-at file p k b h)) (λ _ x. some (λ q w. x .1 q (w ∙ sym (kind-at file p k b h)))) (λ h _. omega arith)))
 
   -- the record at p is out of its order
   pub disordered : (q : Rec) → Lies file p q → (Begins (kinds rs ++ kind q ∷ []) → ⊥) → Faulty no-judge file (form OutOfOrder) p

@@ -140,12 +140,12 @@ module _ {E : Type 0} (j : Judge E) (later : (e : E) → 7 < j e .number) where
   goes-on file p q rs qs w u b ([], same, is) = sym (same ∙ append-nil rs)
   goes-on file p q rs qs w u b (r ∷ more, same, is) =
       absurd (placed-well file p rs r
-        (record {
-          rest = joined bytes more ++ drop q file;
-          is = is ∙ append-assoc (bytes r) (joined bytes more) (drop q file);
-          fit = all-mid rs more r (subst (All Fit) same (u .fit));
-        })
-        (begins-mid rs more r (subst (λ l. Begins (kinds l)) same (u .begins))) w (λ e _ m. u .taken rs more r same e m) b)
+      (record {
+        rest = joined bytes more ++ drop q file;
+        is = is ∙ append-assoc (bytes r) (joined bytes more) (drop q file);
+        fit = all-mid rs more r (subst (All Fit) same (u .fit));
+      })
+      (begins-mid rs more r (subst (λ l. Begins (kinds l)) same (u .begins))) w (λ e _ m. u .taken rs more r same e m) b)
 
   met : (file : List ℕ) (p q : ℕ) (rs qs : List Rec) → Upto j file p rs → Upto j file q qs → Longer rs qs (drop p file) (drop q file) ⊎ Longer qs rs (drop q file) (drop p file)
   met file p q rs qs u v =
@@ -202,6 +202,7 @@ module _ {E : Type 0} (j : Judge E) (later : (e : E) → 7 < j e .number) where
     where
       all : Upto j file (length file) rs
       all = whole-upto file rs h t
+
       spoils : After j (Ill w) (file, p) → ⊥
       spoils (qs, u, b) =
           let same : qs ≡ rs = ⊎-elim (λ l. goes-on file p (length file) qs rs w all b l) (λ l. sym (nothing-follows file _ rs qs l)) (met file p (length file) qs rs u all) in
@@ -244,8 +245,8 @@ module _ {E : Type 0} (j : Judge E) (later : (e : E) → 7 < j e .number) where
     one-fault file w v p q a b =
         ⊎-elim
         (λ same.
-            let e = same-reason w v same in
-            (e, one-place file w p q (a .meets) (subst (λ x. fault j x .meets (file, q)) (sym e) (b .meets))))
+        let e = same-reason w v same in
+        (e, one-place file w p q (a .meets) (subst (λ x. fault j x .meets (file, q)) (sym e) (b .meets))))
         (λ other. absurd (⊎-elim (λ lt. b .first w p lt (a .meets)) (λ lt. a .first v q lt (b .meets)) other))
         (cases-order (fault j w .number) (fault j v .number))
 

@@ -23,21 +23,36 @@ use tickets::Terms;
 /// The longest file, in bytes.
 pub const LONGEST_FILE: usize = 32768;
 
+/// The longest label of a ticket, in bytes.
+pub const LONGEST_LABEL: usize = 16;
+
 /// What comes after the header.
 fn header(file: &[u8]) -> Result<&[u8], FileFault>
     ensures { λ r. ⌜ Cases r (λ rest. (now (file .entry) ≡ head ++ now rest) × (length (now (file .entry)) ≤ 32768)) (λ f. (f .place < 5) × Faulty no-judge (now (file .entry)) (form (f .refusal)) (f .place)) ⌝ }
 {
     if file.len() > LONGEST_FILE {
-        return Err(FileFault { refusal: FileRefusal::TooLong, place: 0 });
+        return Err(FileFault {
+            refusal: FileRefusal::TooLong,
+            place: 0,
+        });
     }
     let [r, p, q, low, high, rest @ ..] = file else {
-        return Err(FileFault { refusal: FileRefusal::NotATicketFile, place: 0 });
+        return Err(FileFault {
+            refusal: FileRefusal::NotATicketFile,
+            place: 0,
+        });
     };
     if *r != b'R' || *p != b'P' || *q != b'Q' {
-        return Err(FileFault { refusal: FileRefusal::NotATicketFile, place: 0 });
+        return Err(FileFault {
+            refusal: FileRefusal::NotATicketFile,
+            place: 0,
+        });
     }
     if *low != 1 || *high != 0 {
-        return Err(FileFault { refusal: FileRefusal::OtherVersion, place: 3 });
+        return Err(FileFault {
+            refusal: FileRefusal::OtherVersion,
+            place: 3,
+        });
     }
     Ok(rest)
 }
@@ -62,13 +77,29 @@ fn decode(kind: u8, body: &[u8], place: usize) -> Result<Record<'_>, FileRefusal
     ensures { λ r. ⌜ Cases r (λ x. Decoded kind (now (body .entry)) place x) (λ e. Undecoded kind (length (now (body .entry))) e) ⌝ }
 {
     match (kind, body) {
-        (b'T', [first, last, length, low, high, label @ ..]) if label.len() <= 16 => {
+        (b'T', [first, last, length, low, high, label @ ..]) if label.len() <= LONGEST_LABEL => {
             let weight = u16::from_le_bytes([*low, *high]);
-            let terms = Terms { first: *first, last: *last, length: *length, weight };
-            Ok(Record::Ticket { terms, label: Label { place: place + 7, bytes: label } })
+            let terms = Terms {
+                first: *first,
+                last: *last,
+                length: *length,
+                weight,
+            };
+            Ok(Record::Ticket {
+                terms,
+                label: Label {
+                    place: place + 7,
+                    bytes: label,
+                },
+            })
         }
-        (b'C', [a, b, c, d]) => Ok(Record::Ceiling { ceiling: u32::from_le_bytes([*a, *b, *c, *d]) }),
-        (b'B', [ticket, start]) => Ok(Record::Ban { ticket: *ticket, start: *start }),
+        (b'C', [a, b, c, d]) => Ok(Record::Ceiling {
+            ceiling: u32::from_le_bytes([*a, *b, *c, *d]),
+        }),
+        (b'B', [ticket, start]) => Ok(Record::Ban {
+            ticket: *ticket,
+            start: *start,
+        }),
         (b'T' | b'C' | b'B', _) => Err(FileRefusal::BodyLength),
         _ => Err(FileRefusal::UnknownKind),
     }
@@ -97,7 +128,11 @@ fn record_at<'a>(file: &'a [u8], place: usize, stage: Stage) -> Result<Step<'a>,
     let Some(stage) = admit(stage, &record) else {
         return Err(FileRefusal::OutOfOrder);
     };
-    Ok(Step { placed: Placed { place, record }, next: place + 2 + body.len(), stage })
+    Ok(Step {
+        placed: Placed { place, record },
+        next: place + 2 + body.len(),
+        stage,
+    })
 }
 
 /// Reads the records of a file, up to its fault.
@@ -108,7 +143,10 @@ pub fn read<'a>(heap: Global, file: &'a [u8]) -> Result<Reading<'a>, AllocError>
     let mut records = Vec::new(heap);
     let rest = match header(file) {
         Ok(rest) => rest,
-        Err(fault) => return Ok(Reading { records, fault: Some(fault) }),
+        Err(fault) => return Ok(Reading {
+            records,
+            fault: Some(fault),
+        }),
     };
     let mut place = file.len() - rest.len();
     let mut stage = Stage::Tickets;
@@ -119,11 +157,17 @@ pub fn read<'a>(heap: Global, file: &'a [u8]) -> Result<Reading<'a>, AllocError>
                 place = step.next;
                 stage = step.stage;
             }
-            Err(refusal) => return Ok(Reading { records, fault: Some(FileFault { refusal, place }) }),
+            Err(refusal) => return Ok(Reading {
+                records,
+                fault: Some(FileFault { refusal, place }),
+            }),
         }
     }
     let fault = match stage {
-        Stage::Tickets => Some(FileFault { refusal: FileRefusal::OutOfOrder, place }),
+        Stage::Tickets => Some(FileFault {
+            refusal: FileRefusal::OutOfOrder,
+            place,
+        }),
         Stage::Bans => None,
     };
     Ok(Reading { records, fault })

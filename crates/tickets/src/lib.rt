@@ -7,6 +7,7 @@
 
 pub mod collection;
 pub mod posting;
+pub mod reading;
 pub mod refusal;
 pub mod terms;
 pub mod ticket;

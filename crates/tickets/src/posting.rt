@@ -1,6 +1,6 @@
 ghost use mathlib.Core.Path.{_≡_};
 ghost use Rattle.std.specs.Options.{Cases};
-ghost use Rattle.tickets.specs.Collections.{Fair, terms-of, held, posted, no-tickets, Posted, Limited};
+ghost use Rattle.tickets.specs.Collections.{Fair, terms-of, held, no-tickets, Posted, Limited};
 use crate::collection::Collection;
 use crate::refusal::TicketRefusal;
 use crate::terms::Terms;
@@ -16,11 +16,21 @@ pub const HIGHEST_CEILING: u32 = 16777215;
 fn judged(terms: Terms) -> Option<Ticket>
     ensures { λ r. ⌜ Cases r (Fair terms → ⊥) (λ t. Fair terms × (terms-of t ≡ terms)) ⌝ }
 {
-    let Terms { first, last, length, weight } = terms;
+    let Terms {
+        first,
+        last,
+        length,
+        weight,
+    } = terms;
     if first > last || length < 1 || length > 16 || weight > 1000 {
         return None;
     }
-    Some(Ticket { first, last, length, weight })
+    Some(Ticket {
+        first,
+        last,
+        length,
+        weight,
+    })
 }
 
 impl Collection {
@@ -28,8 +38,17 @@ impl Collection {
     pub fn new() -> Collection
         ensures { λ r. ⌜ held r ≡ no-tickets ⌝ }
     {
-        let blank = Ticket { first: 0, last: 0, length: 1, weight: 0 };
-        Collection { tickets: [blank; 24], count: 0, ceiling: HIGHEST_CEILING }
+        let blank = Ticket {
+            first: 0,
+            last: 0,
+            length: 1,
+            weight: 0,
+        };
+        Collection {
+            tickets: [blank; 24],
+            count: 0,
+            ceiling: HIGHEST_CEILING,
+        }
     }
 
     /// Adds a ticket, and answers its number.
@@ -57,19 +76,5 @@ impl Collection {
         }
         self.ceiling = ceiling;
         Ok(())
-    }
-
-    /// The tickets, in the order in which they were posted.
-    pub fn tickets(&self) -> &[Ticket]
-        ensures { λ r. ⌜ now r ≡ posted (now (self .entry)) ⌝ }
-    {
-        &self.tickets[0..self.count]
-    }
-
-    /// The cost that no plan may pass.
-    pub fn ceiling(&self) -> u32
-        ensures { λ r. ⌜ r ≡ held (now (self .entry)) .ceiling ⌝ }
-    {
-        self.ceiling
     }
 }

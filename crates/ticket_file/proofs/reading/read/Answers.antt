@@ -40,6 +40,6 @@ pub returns : need.returns
 returns c =
     let inv = c .loop-place .inv in
     elim (c .match-stage .came) [
-      in-Tickets w ↦ record { read = faulted _ _ (inv .rs) _ (inv .are) (w .fault-is) (unfinished _ _ _ _ (inv .sofar) (c .loop-place-test .left) (w .in-Tickets .is)) (inr (upto _ _ _ _ (inv .sofar))); injective = injective }
-    | in-Bans w ↦ record { read = complete _ _ (inv .rs) (inv .are) (w .fault-is) (finished _ _ _ _ (inv .sofar) (c .loop-place-test .left) (w .in-Bans .is)); injective = injective }
+      | in-Tickets w ↦ record { read = faulted _ _ (inv .rs) _ (inv .are) (w .fault-is) (unfinished _ _ _ _ (inv .sofar) (c .loop-place-test .left) (w .in-Tickets .is)) (inr (upto _ _ _ _ (inv .sofar))); injective = injective }
+      | in-Bans w ↦ record { read = complete _ _ (inv .rs) (inv .are) (w .fault-is) (finished _ _ _ _ (inv .sofar) (c .loop-place-test .left) (w .in-Bans .is)); injective = injective }
     ]

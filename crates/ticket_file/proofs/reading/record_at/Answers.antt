@@ -24,8 +24,7 @@ returns-in-rest c = λ rs r.
 pub returns : need.returns
 returns c = λ rs r.
     let frame = framed _ _ _ _ _ (c .in-Continue-kind .ensures tt) in
-    let decoded = c .in-Continue-record .ensures tt in
-    (
+    let decoded = c .in-Continue-record .ensures tt in (
       hands _ _ _ rs r (plain (c .in-Continue-record .record)) _ (lies _ _ _ _ _ frame decoded) (c .in-Some .ensures tt _ (r .follows)) _ (omega (arith, ap length (decoded .is))),
       spot-is _ _ _ (decoded .label),
       omega arith,

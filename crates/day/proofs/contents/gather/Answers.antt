@@ -1,6 +1,6 @@
 use Rattle.day.specs.Contents.{gathered}
 use Rattle.day.proofs.Outcomes.{blank, no-record, next-record, contents-fault, form-found, all-found}
-use Rattle.day.proofs.report.gather.Needs as need
+use Rattle.day.proofs.contents.gather.Needs as need
 
 pub loop-placed-holds : need.loop-placed-holds
 loop-placed-holds c = no-record (c .as-slice-records .result .now) _ (c .new-contents .ensures)

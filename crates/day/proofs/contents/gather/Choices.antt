@@ -5,7 +5,7 @@ use Rattle.ticket_file.specs.Faults.{Taken}
 use Rattle.ticket_file.specs.Readings.{plain}
 use Rattle.day.specs.Judging.{nothing, gather, posting}
 use Rattle.day.specs.Contents.{gathered}
-use Rattle.day.proofs.report.gather.Given as given
+use Rattle.day.proofs.contents.gather.Given as given
 
 abbrev pub Inv-loop-placed : given.InvT-loop-placed
 Inv-loop-placed l =
