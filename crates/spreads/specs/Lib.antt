@@ -1,0 +1,12 @@
+pub mod Quotient
+pub mod Lines
+pub mod Domination
+pub mod Spreads
+pub mod Greedy
+pub mod Pinned
+pub mod Rises
+pub mod Ranks
+pub mod Plans
+pub mod Builder
+pub mod Exists
+pub mod Figures
