@@ -6,6 +6,7 @@
 //! as it was.
 
 pub mod collection;
+pub mod planner_refusal;
 pub mod posting;
 pub mod reading;
 pub mod refusal;
@@ -13,6 +14,7 @@ pub mod terms;
 pub mod ticket;
 
 pub use collection::Collection;
+pub use planner_refusal::PlannerRefusal;
 pub use refusal::TicketRefusal;
 pub use terms::Terms;
 pub use ticket::Ticket;

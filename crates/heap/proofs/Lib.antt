@@ -1,0 +1,4 @@
+pub mod Consequences
+mod Sifting
+mod Slots
+mod Trees
