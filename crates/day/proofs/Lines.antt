@@ -35,6 +35,7 @@ module _ (text whole : List ℕ) (bs : List Ban) (k : ℕ) (left : text ++ joine
   pub all-bans : length bs ≤ k → text ≡ whole
   all-bans h = no-line text _ whole (ap (λ l. joined ban-line (map banned l)) (drop-all k bs h)) left
 
--- three parts, added one after the other
-pub three-parts : (a b c text more all : List ℕ) → text ≡ a → more ≡ text ++ b → all ≡ more ++ c → all ≡ a ++ (b ++ c)
-three-parts a b c text more all e f g = g ∙ ap (λ l. l ++ c) (f ∙ ap (λ l. l ++ b) e) ∙ append-assoc a b c
+-- four parts, added one after the other
+pub four-parts : (a b c d t1 t2 t3 t4 : List ℕ) → t1 ≡ a → t2 ≡ t1 ++ b → t3 ≡ t2 ++ c → t4 ≡ t3 ++ d → t4 ≡ a ++ (b ++ (c ++ d))
+four-parts a b c d t1 t2 t3 t4 e f g h =
+    h ∙ ap (λ l. l ++ d) (g ∙ ap (λ l. l ++ c) (f ∙ ap (λ l. l ++ b) e)) ∙ append-assoc (a ++ b) c d ∙ append-assoc a b (c ++ d)

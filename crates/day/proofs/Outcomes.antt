@@ -31,7 +31,7 @@ use Rattle.day.specs.declared.fault.Fault.{Fault}
 use Rattle.day.specs.declared.report.Report.{Report}
 use Rattle.day.specs.Judging.{Gathered, nothing, with-record, gather, judging, posting, reason}
 use Rattle.day.specs.Contents.{Took}
-use Rattle.day.specs.Texts.{listing, fault-line}
+use Rattle.day.specs.Texts.{Lists, fault-line}
 use Rattle.day.specs.Reports.{Accepted, Reported}
 use Rattle.day.proofs.Gathering.{gather-push, later, apart}
 
@@ -122,10 +122,10 @@ same-refusal (Ticket d) (File g) e = let z : _≡_ {A = ℕ} 0 1 = cc in absurd 
 same-refusal (Ticket d) (Ticket c) e = let same : d ≡ c = cc in ap Ticket same
 
 -- the report on a file that is accepted
-pub reports-listing : (file : List ℕ) (x : Report) (g : Gathered) (rs : List Rec) → Accepted file rs → g ≡ gather nothing rs → x .fault ≡ None → string-bytes (x .text) ≡ listing g → Reported file x
+pub reports-listing : (file : List ℕ) (x : Report) (g : Gathered) (rs : List Rec) → Accepted file rs → g ≡ gather nothing rs → x .fault ≡ None → Lists g (string-bytes (x .text)) → Reported file x
 reports-listing file x g rs a is none text = record {
   either = inl (rs, a);
-  accepted = λ qs b. (none, text ∙ ap listing is ∙ ap (λ l. listing (gather nothing l)) (injective rs qs (sym (a .holds .is) ∙ b .holds .is)));
+  accepted = λ qs b. (none, subst (λ h. Lists h (string-bytes (x .text))) (is ∙ ap (gather nothing) (injective rs qs (sym (a .holds .is) ∙ b .holds .is))) text);
   faulty = λ w p f. absurd (held-is-well posting later file rs (a .holds) (a .taken) (reason w) p (f .meets));
 }
 

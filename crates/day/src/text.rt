@@ -6,13 +6,21 @@ ghost use Rattle.std.specs.Vec.{made};
 ghost use Rattle.tickets.specs.Collections.{terms-of};
 ghost use Rattle.day.specs.Judging.{reason};
 ghost use Rattle.day.specs.Contents.{banned, gathered};
-ghost use Rattle.day.specs.Texts.{ceiling-line, row-line, rows, ban-line, fault-line, listing as whole-text};
+ghost use Rattle.day.specs.Texts.{floor-line, ceiling-line, row-line, rows, ban-line, fault-line, Lists};
 use crate::contents::Ban;
 use crate::contents::Contents;
 use crate::fault::Fault;
+use pricing::floor;
+use pricing::posted_releases;
 use std::alloc::AllocError;
 use std::alloc::Global;
 use tickets::Ticket;
+
+fn floor_line(heap: Global, floor: u64) -> Result<String, AllocError>
+    ensures { λ r. ⌜ made r (λ s. string-bytes s ≡ floor-line floor) ⌝ }
+{
+    format!(heap, "floor {floor}\n")
+}
 
 fn ceiling_line(heap: Global, ceiling: u32) -> Result<String, AllocError>
     ensures { λ r. ⌜ made r (λ s. string-bytes s ≡ ceiling-line ceiling) ⌝ }
@@ -68,11 +76,14 @@ fn push_bans(heap: Global, text: &mut String, bans: &[Ban]) -> Result<(), AllocE
     Ok(())
 }
 
-/// The listing of what was read: the ceiling, the rows and the bans.
+/// The listing of what was read: the floor of the rows as posted, the ceiling, the rows and the bans.
 pub(crate) fn listing(heap: Global, contents: &Contents) -> Result<String, AllocError>
-    ensures { λ r. ⌜ made r (λ s. string-bytes s ≡ whole-text (gathered (now (contents .entry)))) ⌝ }
+    ensures { λ r. ⌜ made r (λ s. Lists (gathered (now (contents .entry))) (string-bytes s)) ⌝ }
 {
-    let mut text = ceiling_line(heap, contents.collection.ceiling())?;
+    let releases = posted_releases(&contents.collection);
+    let mut text = floor_line(heap, floor(&contents.collection, &releases))?;
+    let ceiling = ceiling_line(heap, contents.collection.ceiling())?;
+    text.push_str(ceiling.as_str())?;
     push_rows(heap, &mut text, contents.collection.tickets())?;
     push_bans(heap, &mut text, contents.bans.as_slice())?;
     Ok(text)

@@ -116,7 +116,34 @@ fn texts(rt: LibcRuntime) -> Result<(), Fail> {
         ],
     )?;
     let report = day::report_on(heap, file.as_slice())?;
-    check(report.text.as_str() == "ceiling 372\n0 0-10\nban 2 8\nban 0 255\n")?;
+    check(report.text.as_str() == "floor 50\nceiling 372\n0 0-10\nban 2 8\nban 0 255\n")?;
+    let file = headed(
+        heap,
+        &[
+            84,
+            5,
+            0,
+            4,
+            4,
+            1,
+            0,
+            84,
+            5,
+            1,
+            3,
+            1,
+            3,
+            0,
+            67,
+            4,
+            14,
+            0,
+            0,
+            0,
+        ],
+    )?;
+    let report = day::report_on(heap, file.as_slice())?;
+    check(report.text.as_str() == "floor 11\nceiling 14\n0 0-4\n1 1-3\n")?;
     let file = headed(heap, &[67, 4, 0, 0, 0, 1])?;
     let report = day::report_on(heap, file.as_slice())?;
     check(report.text.as_str() == "fault ticket 10 5\n")?;

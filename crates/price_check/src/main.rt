@@ -67,7 +67,12 @@ fn posted(numbers: &mut Numbers, collection: &mut Collection) -> Result<[u8; 24]
         let length = numbers.byte()?;
         let weight = u16::try_from(numbers.next()?)?;
         let release = numbers.byte()?;
-        match collection.post(Terms { first, last, length, weight }) {
+        match collection.post(Terms {
+            first,
+            last,
+            length,
+            weight,
+        }) {
             Ok(number) => {
                 if number < 24 {
                     releases[number] = release;
@@ -99,7 +104,10 @@ fn compare_day(numbers: &mut Numbers, tally: &mut Tally) -> Result<(), AnyError>
 
 fn compare_all(rt: &LibcRuntime) -> Result<(), AnyError> {
     let mut numbers = numbers_of(rt)?;
-    let mut tally = Tally { prices: 0, wrong: 0 };
+    let mut tally = Tally {
+        prices: 0,
+        wrong: 0,
+    };
     let days = numbers.next()?;
     for _ in 0..days {
         compare_day(&mut numbers, &mut tally)?;

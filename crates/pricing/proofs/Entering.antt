@@ -15,7 +15,6 @@ use Rattle.pricing.specs.Works.{entry}
 use Rattle.pricing.specs.Steps.{Coming, Ours, Entered}
 use Rattle.pricing.proofs.Bags.{in-old, in-new, all-put, length-put}
 
-
 -- nothing is entered yet
 pub none-entered : (xs : List Work) (C : List Release) (left : List ℕ) → C ≡ [] → length left ≡ 24 → ((i : ℕ) → getD left i 0 ≡ 0) → Entered xs 0 C left
 none-entered xs C left e l z = subst (λ (D : List Release). Entered xs 0 D left) (sym e)

@@ -46,8 +46,11 @@ by-value true true x y i j m n a b h e = omega arith
 by-value true false x y i j m n a b h e = absurd (true≢false e)
 by-value false true x y i j m n a b h e = h
 by-value false false x y i j m n a b h e =
-    omega (arith, from-products (x .weight) (x .length) (y .weight) (y .length) (x .plays) (x .short) (y .plays) (y .short)
-    (ltb-false (y .weight * x .length) (x .weight * y .length) (lex-first denser (lex lower shorter) (rank-as false x i) (rank-as false y j) e)))
+    omega (
+      arith,
+      from-products (x .weight) (x .length) (y .weight) (y .length) (x .plays) (x .short) (y .plays) (y .short)
+          (ltb-false (y .weight * x .length) (x .weight * y .length) (lex-first denser (lex lower shorter) (rank-as false x i) (rank-as false y j) e)),
+    )
 
 -- entries with some marks stand for their tickets, the marked ones of a value above all
 module _ (ts : List Ticket) (r : ℕ → ℕ) (mark : ℕ → Bool) (xs : List Work) (many : length xs ≡ length ts)

@@ -92,7 +92,10 @@ fn play(entries: &[Work]) -> u64
     let mut spent = 0u64;
     while let Some((event, at)) = next_event(&mut coming, state, &left) {
         match (state, event) {
-            (State::Idle { .. }, Event::Release(new)) => state = State::Playing { ticket: new, since: at },
+            (State::Idle { .. }, Event::Release(new)) => state = State::Playing {
+                ticket: new,
+                since: at,
+            },
             (State::Playing { ticket, since }, Event::Release(new)) => {
                 let other = rank(entries, new);
                 let own = rank(entries, ticket);
@@ -100,7 +103,10 @@ fn play(entries: &[Work]) -> u64
                     spent += stretch(entries[ticket], since, at);
                     left[ticket] -= (at - since) as u8;
                     let _ = ready.push(own);
-                    state = State::Playing { ticket: new, since: at };
+                    state = State::Playing {
+                        ticket: new,
+                        since: at,
+                    };
                 } else {
                     let _ = ready.push(other);
                 }

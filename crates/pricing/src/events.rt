@@ -27,7 +27,11 @@ fn done_at(state: State, left: &[u8]) -> u16
 }
 
 /// What happens next, and when. A ticket that is released leaves `coming`.
-pub(crate) fn next_event(coming: &mut Heap<Release>, state: State, left: &[u8]) -> Option<(Event, u16)>
+pub(crate) fn next_event(
+    coming: &mut Heap<Release>,
+    state: State,
+    left: &[u8],
+) -> Option<(Event, u16)>
     requires sound { ⌜ Sound sooner (now coming) ⌝ }
     requires fine { ⌜ Fine (now left) state ⌝ }
     ensures sound { λ _. ⌜ Sound sooner (now (coming .exit)) ⌝ }

@@ -52,7 +52,12 @@ pub fn free_price(collection: &Collection, releases: &[u8; 24]) -> u64
 }
 
 /// The least price of a spread in which the ticket has the slots from `start` on, whatever its release.
-pub fn pinned_price(collection: &Collection, releases: &[u8; 24], ticket: usize, start: usize) -> Result<u64, PlannerRefusal>
+pub fn pinned_price(
+    collection: &Collection,
+    releases: &[u8; 24],
+    ticket: usize,
+    start: usize,
+) -> Result<u64, PlannerRefusal>
     ensures { λ r. ⌜ Pinned-answer (posted (now (collection .entry))) (now (releases .entry)) ticket start r ⌝ }
 {
     let tickets = collection.tickets();
