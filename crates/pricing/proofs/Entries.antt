@@ -1,5 +1,5 @@
 -- Working entries: what pinning writes, and what putting back undoes. Assumes nothing.
-use mathlib.Core.Path.{_≡_, refl, sym, ap, _∙_}
+use mathlib.Core.Path.{_≡_, ap, _∙_}
 use mathlib.Core.Bool.{Bool}
 use mathlib.Core.HLevel.{isProp→PathP}
 use mathlib.Core.List.{List}

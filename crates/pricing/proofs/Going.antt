@@ -16,7 +16,12 @@ use Rattle.pricing.specs.declared.step.State.the-variants.{Idle, Playing}
 use Rattle.pricing.specs.Keys.{higher}
 use Rattle.pricing.specs.Works.{entry, rank-of, Stands}
 use Rattle.pricing.specs.Terms.{most-stretch}
-use Rattle.pricing.specs.Steps.{In, Coming, Ours, busy, start}
+use Rattle.pricing.specs.Steps.{In, Coming, Ours, busy}
+
+-- since when it plays, or is idle
+abbrev pub start : State → ℕ
+start (Idle s) = s
+start (Playing j s) = s
 
 abbrev pub Waits : List Rank → ℕ → Type 0
 Waits R i = In (λ (x : Rank). x .number) R i

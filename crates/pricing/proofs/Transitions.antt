@@ -1,21 +1,19 @@
 -- One event after the other. Assumes nothing.
 use mathlib.Core.Path.{_≡_, refl, sym, ap, subst, _∙_}
-use mathlib.Core.Bool.{Bool, true, false}
+use mathlib.Core.Bool.{false}
 use mathlib.Core.List.{List, [], _∷_}
-use mathlib.Core.Logic.{_⊎_, inl, inr, _≢_}
-use Prim.Native.Nat.{ℕ, suc, _+_, _-_, _*_, _/_, _<_, _≤_}
+use mathlib.Core.Logic.{_⊎_, inl, inr}
+use Prim.Native.Nat.{ℕ, _+_, _-_, _*_, _/_, _<_, _≤_}
 use native.Mathlib.Nat.{zero-add, add-zero}
 use native.Mathlib.Omega.{arith}
 use lib.ListN.{length, getD, set, length-set}
 use lib.Seq.{getD-set-same, getD-set-other}
-use Rattle.std.specs.shelf.Lists.{All, Has}
+use Rattle.std.specs.shelf.Lists.{All}
 use Rattle.std.specs.shelf.Sorted.{Shuffled}
-use Rattle.std.specs.declared.option.Option.{Option}
-use Rattle.std.specs.declared.option.Option.the-variants.{Some, None}
+use Rattle.std.specs.declared.option.Option.the-variants.{Some}
 use Rattle.std.proofs.shelf.Tests.{cases-eq, cases-lt}
 use Rattle.std.proofs.shelf.Elements.{all-has, all-weaker}
 use Rattle.tickets.specs.declared.ticket.Ticket.{Ticket}
-use Rattle.spreads.specs.Lines.{sumTo}
 use Rattle.spreads.specs.Spreads.{ticket, value}
 use Rattle.spreads.specs.Builder.{Ready, First, Builds, ends, lengths}
 use Rattle.spreads.proofs.Building.{lengths-at}
@@ -30,11 +28,11 @@ use Rattle.pricing.specs.declared.step.Event.the-variants.{Release as Released
 use Rattle.pricing.specs.Keys.{higher}
 use Rattle.pricing.specs.Works.{entry, rank-of, Stands}
 use Rattle.pricing.specs.Terms.{slots-between, stretch-of, most-stretch}
-use Rattle.pricing.specs.Steps.{Coming, Ours, Entered, busy, start, Fine, Next, Busy}
+use Rattle.pricing.specs.Steps.{Coming, Ours, Entered, busy, Fine, Next, Busy}
 use Rattle.pricing.proofs.Laws.{higher-chain, higher-irrefl}
 use Rattle.pricing.proofs.Queues.{all-none}
 use Rattle.pricing.proofs.Bags.{in-taken, all-taken, one-taken, length-taken, in-old, in-new, all-put, length-put}
-use Rattle.pricing.proofs.Going.{Waits, Plays, Rated, Under, On, events, Going}
+use Rattle.pricing.proofs.Going.{Waits, Rated, Under, Going}
 
 abbrev slot-number : Release → ℕ
 slot-number x = x .number

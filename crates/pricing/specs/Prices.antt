@@ -1,13 +1,12 @@
 -- What the calls for prices answer. Assumes nothing.
 use mathlib.Core.List.{List, _++_, map}
-use mathlib.Core.Path.{_≡_}
 use Prim.Native.Nat.{ℕ, _+_, _-_, _*_, _<_, _≤_}
 use lib.ListN.{length, replicate}
 use Rattle.std.specs.declared.result.Result.{Result}
 use Rattle.std.specs.declared.result.Result.the-variants.{Ok, Err}
 use Rattle.tickets.specs.declared.ticket.Ticket.{Ticket}
 use Rattle.tickets.specs.declared.planner_refusal.PlannerRefusal.{PlannerRefusal}
-use Rattle.tickets.specs.declared.planner_refusal.PlannerRefusal.the-variants.{NoSuchTicket, NoSuchStart}
+use Rattle.tickets.specs.declared.planner_refusal.PlannerRefusal.the-variants.{NoSuchTicket, NoSuchStart, OnlyStart, CeilingNotLower, TooManyLevels, StaleToken, TooShort, PlanLength, Overlap, CostTooHigh, Hopeless}
 use Rattle.tickets.specs.Planner.{number-of}
 use Rattle.tickets.specs.Refusals.{Meaning, Answers, Clear}
 use Rattle.spreads.specs.Spreads.{Least-price}
@@ -19,10 +18,23 @@ pub record Asked : Type 0 where
   pub ticket : ℕ
   pub start : ℕ
 
+-- a refusal that no pinned price answers
+abbrev pub never : PlannerRefusal → Meaning Asked
+never e = record { number = number-of e; meets = λ _. ⊥ }
+
 -- each refusal: its number, and what meets it
 abbrev pub meaning : PlannerRefusal → Meaning Asked
 meaning NoSuchTicket = record { number = number-of NoSuchTicket; meets = λ a. length (a .tickets) ≤ a .ticket }
 meaning NoSuchStart = record { number = number-of NoSuchStart; meets = λ a. 255 < a .start }
+meaning OnlyStart = never OnlyStart
+meaning CeilingNotLower = never CeilingNotLower
+meaning TooManyLevels = never TooManyLevels
+meaning StaleToken = never StaleToken
+meaning TooShort = never TooShort
+meaning PlanLength = never PlanLength
+meaning Overlap = never Overlap
+meaning CostTooHigh = never CostTooHigh
+meaning Hopeless = never Hopeless
 
 -- the answer for ticket i at t: the pinned price, where nothing is refused, or the refusal
 abbrev pub Pinned-answer : List Ticket → List ℕ → ℕ → ℕ → Result ℕ PlannerRefusal → Type 0

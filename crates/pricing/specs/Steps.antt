@@ -1,7 +1,7 @@
 -- What the steps of the builder find. Assumes nothing.
 use mathlib.Core.Path.{_≡_}
 use mathlib.Core.List.{List, _∷_}
-use Prim.Native.Nat.{ℕ, _+_, _*_, _<_, _≤_}
+use Prim.Native.Nat.{ℕ, _+_, _<_, _≤_}
 use lib.ListN.{length, getD}
 use Rattle.std.specs.shelf.Lists.{All, Has}
 use Rattle.std.specs.shelf.Sorted.{Shuffled}
@@ -42,10 +42,6 @@ pub record Entered (xs : List Work) (n : ℕ) (C : List Release) (left : List �
 abbrev pub busy : State → ℕ
 busy (Idle s) = 0
 busy (Playing j s) = 1
-
-abbrev pub start : State → ℕ
-start (Idle s) = s
-start (Playing j s) = s
 
 -- when what plays is done, if nothing comes between; a moment past all releases where nothing plays
 abbrev pub end : State → List ℕ → ℕ

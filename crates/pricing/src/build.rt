@@ -1,8 +1,8 @@
 //! The builder: the cheapest spread, built in time order from event to event.
 ghost use mathlib.Core.Bool.{true};
 ghost use mathlib.Core.Path.{_≡_};
-ghost use Prim.Native.Nat.{ℕ, _+_, _*_, _<_, _≤_};
-ghost use lib.ListN.{length, getD};
+ghost use Prim.Native.Nat.{_+_, _*_, _<_, _≤_};
+ghost use lib.ListN.{length};
 ghost use Rattle.heap.specs.Waiting.{waiting, room, Sound, Same-slots};
 ghost use Rattle.pricing.specs.Keys.{sooner};
 ghost use Rattle.pricing.specs.Works.{rank-of, moved};
@@ -23,6 +23,17 @@ use crate::terms::stretch;
 use crate::work::Work;
 use heap::Heap;
 use heap::Order;
+
+/// What stands in a slot in which nothing waits.
+const NO_RELEASE: Release = Release { slot: 0, number: 0 };
+
+/// What stands in a slot in which nothing waits.
+const NO_RANK: Rank = Rank {
+    pinned: false,
+    weight: 0,
+    length: 1,
+    number: 0,
+};
 
 /// The half terms of all tickets.
 fn halves(entries: &[Work]) -> u64
@@ -71,19 +82,14 @@ fn enter(entries: &[Work], coming: &mut Heap<Release>, left: &mut [u8])
     }
 }
 
-/// Plays all tickets, and answers the busy terms of the price.
+/// Plays all tickets, and answers the busy terms of the price. There is room for each ticket in both lines.
 fn play(entries: &[Work]) -> u64
     requires { ⌜ length (now entries) ≤ 24 ⌝ }
     ensures busy { λ r. ⌜ Busy (now (entries .entry)) r ⌝ }
     ensures most { λ r. ⌜ r ≤ 48 * most-stretch ⌝ }
 {
-    let mut coming_slots = [Release { slot: 0, number: 0 }; 24];
-    let mut ready_slots = [Rank {
-        pinned: false,
-        weight: 0,
-        length: 1,
-        number: 0,
-    }; 24];
+    let mut coming_slots = [NO_RELEASE; 24];
+    let mut ready_slots = [NO_RANK; 24];
     let mut left = [0u8; 24];
     let mut coming = Heap::new(&mut coming_slots);
     let mut ready = Heap::new(&mut ready_slots);
@@ -92,28 +98,25 @@ fn play(entries: &[Work]) -> u64
     let mut spent = 0u64;
     while let Some((event, at)) = next_event(&mut coming, state, &left) {
         match (state, event) {
-            (State::Idle { .. }, Event::Release(new)) => state = State::Playing {
-                ticket: new,
+            (State::Idle { .. }, Event::Release(ticket)) => state = State::Playing {
+                ticket,
                 since: at,
             },
-            (State::Playing { ticket, since }, Event::Release(new)) => {
-                let other = rank(entries, new);
+            (State::Playing { ticket: old, since }, Event::Release(ticket)) => {
                 let own = rank(entries, ticket);
-                if other.is_before(&own) {
-                    spent += stretch(entries[ticket], since, at);
-                    left[ticket] -= (at - since) as u8;
-                    let _ = ready.push(own);
-                    state = State::Playing {
-                        ticket: new,
-                        since: at,
-                    };
-                } else {
+                let other = rank(entries, old);
+                if own.is_before(&other) {
+                    spent += stretch(entries[old], since, at);
+                    left[old] -= (at - since) as u8;
                     let _ = ready.push(other);
+                    state = State::Playing { ticket, since: at };
+                } else {
+                    let _ = ready.push(own);
                 }
             }
-            (State::Playing { ticket, since }, Event::Completion) => {
-                spent += stretch(entries[ticket], since, at);
-                left[ticket] = 0;
+            (State::Playing { ticket: old, since }, Event::Completion) => {
+                spent += stretch(entries[old], since, at);
+                left[old] = 0;
                 state = match ready.pop() {
                     Some(next) => State::Playing {
                         ticket: next.number as usize,

@@ -1,7 +1,6 @@
 //! What happens next.
 ghost use mathlib.Core.Path.{_≡_};
-ghost use Prim.Native.Nat.{ℕ, _+_, _<_, _≤_};
-ghost use lib.ListN.{length, getD};
+ghost use Prim.Native.Nat.{_+_, _<_};
 ghost use Rattle.heap.specs.Waiting.{waiting, Sound};
 ghost use Rattle.pricing.specs.Keys.{sooner};
 ghost use Rattle.pricing.specs.Steps.{end, Fine, Next};

@@ -1,7 +1,7 @@
 //! The guard: while it lives, one working entry is pinned; when it goes, however it goes, the entry is as before.
 ghost use mathlib.Core.Path.{_≡_};
 ghost use mathlib.Core.Bool.{true};
-ghost use Prim.Native.Nat.{ℕ, _<_};
+ghost use Prim.Native.Nat.{_<_};
 ghost use lib.ListN.{length};
 ghost use denote.Ref.{name, now};
 ghost use Rattle.pricing.specs.Works.{moved};

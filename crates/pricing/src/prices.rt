@@ -1,6 +1,6 @@
 //! The calls for prices.
 ghost use mathlib.Core.Path.{_≡_};
-ghost use Prim.Native.Nat.{ℕ, _≤_};
+ghost use Prim.Native.Nat.{_≤_};
 ghost use lib.ListN.{length};
 ghost use Rattle.tickets.specs.Collections.{posted};
 ghost use Rattle.spreads.specs.Spreads.{Least-price};

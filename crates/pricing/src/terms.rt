@@ -1,6 +1,6 @@
 //! The terms of a price.
 ghost use mathlib.Core.Path.{_≡_};
-ghost use Prim.Native.Nat.{ℕ, _+_, _-_, _*_, _/_, _<_, _≤_};
+ghost use Prim.Native.Nat.{_+_, _-_, _*_, _/_, _≤_};
 ghost use Rattle.pricing.specs.Terms.{slots-between, stretch-of, most-stretch, half-of, most-half};
 use crate::work::Work;
 use spreads::quotient;

@@ -1,4 +1,3 @@
-use mathlib.Core.Path.{_≡_}
 use Rattle.heap.specs.Waiting.{waiting, Sound, Same-slots}
 use Rattle.pricing.specs.Keys.{sooner}
 use Rattle.pricing.specs.Steps.{Entered}

@@ -1,11 +1,10 @@
-use mathlib.Core.Path.{_≡_, refl, sym, ap, _∙_}
-use Prim.Native.Nat.{ℕ, suc, _+_, _*_, _<_}
+use mathlib.Core.Path.{_≡_, ap, _∙_}
+use Prim.Native.Nat.{ℕ, suc, _+_}
 use native.Mathlib.Omega.{arith}
 use native.Mathlib.Numerals.{add-one}
-use lib.ListN.{length, getD}
+use lib.ListN.{length}
 use Rattle.std.proofs.shelf.Lists.{getD-default}
 use Rattle.spreads.specs.Lines.{sumTo}
-use Rattle.pricing.specs.declared.work.Work.{Work}
 use Rattle.pricing.specs.Works.{blank, entry}
 use Rattle.pricing.specs.Terms.{half-of}
 use Rattle.pricing.proofs.build.halves.Needs as need

@@ -1,5 +1,5 @@
 use mathlib.Core.Path.{_≡_}
-use Prim.Native.Nat.{ℕ, _*_, _≤_}
+use Prim.Native.Nat.{_*_, _≤_}
 use Rattle.spreads.specs.Lines.{sumTo}
 use Rattle.pricing.specs.Works.{entry}
 use Rattle.pricing.specs.Terms.{half-of, most-half}

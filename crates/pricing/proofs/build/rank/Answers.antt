@@ -1,4 +1,4 @@
-use mathlib.Core.Path.{_≡_, refl, ap, _∙_}
+use mathlib.Core.Path.{refl, ap, _∙_}
 use Rattle.std.proofs.shelf.Lists.{getD-default}
 use Rattle.pricing.specs.declared.work.Work.{Work}
 use Rattle.pricing.specs.Works.{blank, rank-of}

@@ -1,10 +1,10 @@
-use mathlib.Core.Path.{_≡_, subst, ap}
+use mathlib.Core.Path.{subst, ap}
 use mathlib.Core.List.{List}
 use Prim.Native.Nat.{ℕ, _≤_, _<_}
 use native.Mathlib.Omega.{arith}
 use lib.ListN.{length}
 use Rattle.tickets.specs.declared.ticket.Ticket.{Ticket}
-use Rattle.tickets.specs.declared.planner_refusal.PlannerRefusal.the-variants.{NoSuchTicket, NoSuchStart}
+use Rattle.tickets.specs.declared.planner_refusal.PlannerRefusal.the-variants.{NoSuchTicket, NoSuchStart, OnlyStart, CeilingNotLower, TooManyLevels, StaleToken, TooShort, PlanLength, Overlap, CostTooHigh, Hopeless}
 use Rattle.tickets.specs.Refusals.{Clear}
 use Rattle.spreads.specs.Pinned.{Least-pinned}
 use Rattle.pricing.specs.Prices.{meaning}
@@ -15,6 +15,15 @@ use Rattle.pricing.proofs.prices.pinned_price.Needs as need
 clear : (ts : List Ticket) (i t : ℕ) → i < length ts → t ≤ 255 → Clear meaning (record { tickets = ts; ticket = i; start = t })
 clear ts i t h k NoSuchTicket m = omega arith
 clear ts i t h k NoSuchStart m = omega arith
+clear ts i t h k OnlyStart m = m
+clear ts i t h k CeilingNotLower m = m
+clear ts i t h k TooManyLevels m = m
+clear ts i t h k StaleToken m = m
+clear ts i t h k TooShort m = m
+clear ts i t h k PlanLength m = m
+clear ts i t h k Overlap m = m
+clear ts i t h k CostTooHigh m = m
+clear ts i t h k Hopeless m = m
 
 pub returns : need.returns
 returns c =
