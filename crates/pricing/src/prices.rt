@@ -51,7 +51,8 @@ pub fn free_price(collection: &Collection, releases: &[u8; 24]) -> u64
     build(&entries[0..tickets.len()])
 }
 
-/// The least price of a spread in which the ticket has the slots from `start` on, whatever its release.
+/// The least price of a spread in which the ticket has the slots from `start` on, whatever its release. Refused
+/// where no ticket has this number, and then where the start is past 255.
 pub fn pinned_price(
     collection: &Collection,
     releases: &[u8; 24],
@@ -71,7 +72,7 @@ pub fn pinned_price(
     Ok(build_pinned(&mut entries[0..tickets.len()], ticket, start as u8))
 }
 
-/// The free price in costs, rounded up: no plan without overlaps costs less.
+/// The free price divided by 720720, rounded up.
 pub fn floor(collection: &Collection, releases: &[u8; 24]) -> u64
     ensures { λ r. ⌜ Floor (posted (now (collection .entry))) (now (releases .entry)) r ⌝ }
 {
