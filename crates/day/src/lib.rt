@@ -3,6 +3,8 @@
 //! A file is read, its records are judged and posted in order, and the outcome is a report: the listing of what
 //! was read, or the line of the file's fault.
 
+#![tactic(auto)]
+
 mod contents;
 pub mod fault;
 pub mod report;

@@ -18,7 +18,7 @@ impl<'a, E: Entry> Heap<'a, E> {
     /// A heap over the slots, in which nothing waits.
     pub fn new(slots: &'a mut [E]) -> Heap<'a, E>
         ensures empty { waiting result ≡ [] }
-        ensures sound { Sound (by_key E.Key.Order.before keyed) result }
+        ensures sound { Sound (by_key E.Key.Order.before E.keyed) result }
         ensures lent { result.slots.now ≡ slots.old }
         ensures lender { result.slots.ghost_name ≡ slots.entry.ghost_name }
     {
@@ -27,7 +27,7 @@ impl<'a, E: Entry> Heap<'a, E> {
 
     /// The entries that wait.
     fn waiting(&self) -> &[E]
-        requires { Sound (by_key E.Key.Order.before keyed) self.now }
+        requires { Sound (by_key E.Key.Order.before E.keyed) self.now }
         ensures { result.now ≡ waiting self.now }
     {
         &self.slots[0..self.len]
@@ -35,7 +35,7 @@ impl<'a, E: Entry> Heap<'a, E> {
 
     /// How many entries wait.
     pub fn len(&self) -> usize
-        requires { Sound (by_key E.Key.Order.before keyed) self.now }
+        requires { Sound (by_key E.Key.Order.before E.keyed) self.now }
         ensures { result ≡ length (waiting self.now) }
     {
         self.waiting().len()
@@ -43,7 +43,7 @@ impl<'a, E: Entry> Heap<'a, E> {
 
     /// Whether no entry waits.
     pub fn is_empty(&self) -> bool
-        requires { Sound (by_key E.Key.Order.before keyed) self.now }
+        requires { Sound (by_key E.Key.Order.before E.keyed) self.now }
         ensures { result ≡ (length (waiting self.now) == 0) }
     {
         self.waiting().is_empty()
@@ -51,8 +51,8 @@ impl<'a, E: Entry> Heap<'a, E> {
 
     /// Adds an entry; where there is no room for it, hands it back.
     pub fn push(&mut self, entry: E) -> Result<(), E>
-        requires { Sound (by_key E.Key.Order.before keyed) self.old }
-        ensures sound { Sound (by_key E.Key.Order.before keyed) self.new }
+        requires { Sound (by_key E.Key.Order.before E.keyed) self.old }
+        ensures sound { Sound (by_key E.Key.Order.before E.keyed) self.new }
         ensures slots { SameSlots self.old self.new }
         ensures pushed { Pushed self.old entry result self.new }
     {
@@ -68,8 +68,8 @@ impl<'a, E: Entry> Heap<'a, E> {
 
     /// An entry with the least key that waits, which goes on waiting.
     pub fn peek(&self) -> Option<E>
-        requires { Sound (by_key E.Key.Order.before keyed) self.now }
-        ensures { Peeked (by_key E.Key.Order.before keyed) self.now result }
+        requires { Sound (by_key E.Key.Order.before E.keyed) self.now }
+        ensures { Peeked (by_key E.Key.Order.before E.keyed) self.now result }
     {
         if self.len > 0 {
             Some(self.slots[0])
@@ -80,10 +80,10 @@ impl<'a, E: Entry> Heap<'a, E> {
 
     /// Hands out an entry with the least key that waits.
     pub fn pop(&mut self) -> Option<E>
-        requires { Sound (by_key E.Key.Order.before keyed) self.old }
-        ensures sound { Sound (by_key E.Key.Order.before keyed) self.new }
+        requires { Sound (by_key E.Key.Order.before E.keyed) self.old }
+        ensures sound { Sound (by_key E.Key.Order.before E.keyed) self.new }
         ensures slots { SameSlots self.old self.new }
-        ensures popped { Popped (by_key E.Key.Order.before keyed) self.old result self.new }
+        ensures popped { Popped (by_key E.Key.Order.before E.keyed) self.old result self.new }
     {
         if self.len == 0 {
             return None;

@@ -4,6 +4,8 @@
 //! an empty heap answers nothing, and a full one hands a new entry back. The lent slots are all the room that a heap
 //! has. Each kind of entry names its kind of key, and a kind of key says which of two keys comes before the other.
 
+#![tactic(auto)]
+
 pub mod entry;
 pub mod heap;
 mod sift;

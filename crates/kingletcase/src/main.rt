@@ -1,5 +1,7 @@
 //! The program: a ticket file on standard input, its report on standard output.
 
+#![tactic(auto)]
+
 use anyhow::anyhow;
 use day::Fault;
 use std::io::Read;

@@ -4,6 +4,8 @@
 //! The listing is written into a buffer that the caller lends. A buffer that is shorter than the listing is
 //! left as it is.
 
+#![tactic(auto)]
+
 mod numbers;
 mod range;
 mod row_lines;

@@ -5,6 +5,8 @@
 //! the starts that no self-supporting table has. No
 //! call asks anything of its caller: what cannot be done is refused with a number, and all is then as it was.
 
+#![tactic(auto)]
+
 mod calls;
 mod cuts;
 mod filling;

@@ -1,5 +1,7 @@
 //! Compares prices with those of stored days, which were found by trying every spread (make_cases.py).
 
+#![tactic(auto)]
+
 use anyhow::anyhow;
 use pricing::{free_price, pinned_price};
 use std::io::Read;

@@ -3,6 +3,8 @@
 //! The builder plays the tickets in time order, from event to event: a release, or the completion of what plays.
 //! Each decides what plays next: of the tickets that are released and unfinished, the one with the greatest w / p.
 
+#![tactic(auto)]
+
 mod build;
 mod events;
 mod guard;

@@ -3,6 +3,8 @@
 //! `judge` answers what a plan costs, or why it is refused. `releases` has the first start of each row, and the
 //! prices are those with these releases. Every call leaves all as it is.
 
+#![tactic(auto)]
+
 pub mod judging;
 pub mod tables;
 

@@ -4,6 +4,8 @@
 //! refused, what a ledger of the calls says, and which starts a table supports is defined in specs/. The functions
 //! of `laws` do no work: the contract of each is a theorem on those definitions.
 
+#![tactic(auto)]
+
 pub mod call;
 pub mod laws;
 

@@ -4,6 +4,8 @@
 //! spread, its price and a least price are is defined in specs/. The functions of `laws` do no work: the
 //! contract of each is a theorem on those definitions.
 
+#![tactic(auto)]
+
 pub mod laws;
 pub mod quotients;
 

@@ -3,6 +3,8 @@
 //! Reading hands out the records as parts of the file, each with the place of its first byte, up to the first
 //! record that is malformed or out of order.
 
+#![tactic(auto)]
+
 pub mod reading;
 pub mod record;
 pub mod refusal;

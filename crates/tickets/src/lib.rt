@@ -5,6 +5,8 @@
 //! given a cost ceiling. Whatever is outside the limits is refused with a number, and leaves the collection
 //! as it was.
 
+#![tactic(auto)]
+
 pub mod collection;
 pub mod planner_refusal;
 pub mod posting;

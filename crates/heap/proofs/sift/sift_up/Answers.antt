@@ -14,10 +14,10 @@ loop-parent-preserved g c =
     let w = c.swap.ensures in (
       IsPermutation-trans _ _ _ l.invariant.0 w.permutation,
       rises (by_key g.E.Key.Order.before g.E.Entry.keyed) law l.slots c.swap.new.self c.in-Some.parent l.at w.len
-          (λ d. (w.by-index.0 d, w.by-index.1 d, λ m. w.by-index.2 m d)) c.in-Some.ensures l.invariant.1,
+          (λ d. (w.by_index.0 d, w.by_index.1 d, λ m. w.by_index.2 m d)) c.in-Some.ensures l.invariant.1,
     )
 
 pub returns : goal.returns
 returns g c =
     let l = c.loop-parent in
-    record { shuffled = l.invariant.0; tree = risen (by_key g.E.Key.Order.before g.E.Entry.keyed) l.slots l.at l.invariant.1 c.in-default.ensures }
+    record { shuffled = l.invariant.0; tree = risen (by_key g.E.Key.Order.before g.E.Entry.keyed) l.slots l.at l.invariant.1 c.in_default.ensures }

@@ -3,8 +3,8 @@ use Rattle.heap.specs.Waiting.{by_key}
 use Rattle.heap.proofs.Slots.{with_last, with_last_long, but_last, pushed_long, pushed_shuffled, sound_by}
 use Rattle.heap.proofs.heap.Heap.push.Goals as goal
 
-pub sift-up-requires : goal.sift-up-requires
-sift-up-requires g c =
+pub sift_up-requires : goal.sift_up-requires
+sift_up-requires g c =
     let h = c.args.self.now in
     let e = c.args.entry in
     let l : h.len < length h.slots.now = omega arith in
@@ -17,7 +17,7 @@ pub returns : goal.returns
 returns g c =
     let h = c.args.self.now in
     let l : h.len < length h.slots.now = omega arith in
-    let t = c.sift-up in
+    let t = c.sift_up in
     record {
       sound = sound_by (by_key g.E.Key.Order.before g.E.Entry.keyed) _ t.new.slots _ refl (pushed_long h.slots.now h.len _ l _ refl t.new.slots t.ensures.shuffled) t.ensures.tree;
       slots = record { lender = refl; long = search rules };

@@ -16,8 +16,8 @@ pub returns : goal.returns
 returns c =
     let s = c.args.self.now in
     let is = rows_in s c.args.row c.args.start (omega arith) in
-    let was = c.put-back.ensures.was in
+    let was = c.put_back.ensures.was in
     record {
       was = grind (arith, nat_tests);
-      left = rows_with s.rows c.args.row c.args.start c.put-back.new.self (omega arith) (omega arith) c.put-back.ensures.left;
+      left = rows_with s.rows c.args.row c.args.start c.put_back.new.self (omega arith) (omega arith) c.put_back.ensures.left;
     }

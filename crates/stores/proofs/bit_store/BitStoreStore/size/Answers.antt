@@ -4,4 +4,4 @@ use Rattle.stores.specs.Sets.{size_of}
 use Rattle.stores.proofs.bit_store.BitStoreStore.size.Goals as goal
 
 pub returns : goal.returns
-returns c = c.size.ensures ∙ ap size_of (fun_ext c.row-at.ensures)
+returns c = c.size.ensures ∙ ap size_of (fun_ext c.row_at.ensures)

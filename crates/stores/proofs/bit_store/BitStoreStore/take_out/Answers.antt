@@ -14,6 +14,6 @@ pub returns : goal.returns
 returns c =
     let s = c.args.self.now in
     record {
-      was = c.take-out.ensures.was ∙ sym (rows_in s c.args.row c.args.start (omega arith));
-      left = rows_without s.rows c.args.row c.args.start c.take-out.new.self (omega arith) (omega arith) c.take-out.ensures.left;
+      was = c.take_out.ensures.was ∙ sym (rows_in s c.args.row c.args.start (omega arith));
+      left = rows_without s.rows c.args.row c.args.start c.take_out.new.self (omega arith) (omega arith) c.take_out.ensures.left;
     }

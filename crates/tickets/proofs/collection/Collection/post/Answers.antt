@@ -3,8 +3,8 @@ use Rattle.tickets.specs.Collections.{terms_of}
 use Rattle.tickets.proofs.Holding.{full, clear, many, more}
 use Rattle.tickets.proofs.collection.Collection.post.Goals as goal
 
-pub returns-then-number-ge-MOST-TICKETS : goal.returns-then-number-ge-MOST-TICKETS
-returns-then-number-ge-MOST-TICKETS c =
+pub returns-then-number-ge-MOST_TICKETS : goal.returns-then-number-ge-MOST_TICKETS
+returns-then-number-ge-MOST_TICKETS c =
     (full _ _ c.in-Some.ensures.0 (omega (arith, many c.args.self.now.tickets c.args.self.now.count c.args.self.now.room c.args.self.now.few)), refl)
 
 pub returns : goal.returns
