@@ -19,8 +19,8 @@ loop-event-init c =
     let e = c.enter.ensures in
     (e.sound, n.sound, ap length n.lent, first c.args.entries.now (waiting c.enter.new.coming) (waiting c.new-ready.result) c.enter.new.left c.requires n.empty e.entered)
 
-pub next-event-requires : goal.next-event-requires
-next-event-requires c = let v = c.loop-event.invariant in record { sound = v.0; fine = fine _ _ _ _ _ _ v.3 }
+pub next_event-requires : goal.next_event-requires
+next_event-requires c = let v = c.loop-event.invariant in record { sound = v.0; fine = fine _ _ _ _ _ _ v.3 }
 
 pub loop-event-smaller-in-Idle-Release : goal.loop-event-smaller-in-Idle-Release
 loop-event-smaller-in-Idle-Release c =
@@ -46,14 +46,14 @@ stretch-spent-requires c =
     let f = stretch_fits _ _ _ _ _ _ a.ticket c.in-Some.at a.old a.since (at_state a.is-0 c.loop-event.invariant.3) (at_next _ _ _ _ a.is-0 a.is-1 c.in-Some.ensures.next) in
     (f.0, f.1, f.2)
 
-pub overflow-sub-left : goal.overflow-sub-left
-overflow-sub-left c =
+pub overflow_sub-left : goal.overflow_sub-left
+overflow_sub-left c =
     let a = c.in-Playing-Release in
     let f = stretch_fits _ _ _ _ _ _ a.ticket c.in-Some.at a.old a.since (at_state a.is-0 c.loop-event.invariant.3) (at_next _ _ _ _ a.is-0 a.is-1 c.in-Some.ensures.next) in
     f.0
 
-pub loop-event-smaller-then-is-before : goal.loop-event-smaller-then-is-before
-loop-event-smaller-then-is-before c =
+pub loop-event-smaller-then-is_before : goal.loop-event-smaller-then-is_before
+loop-event-smaller-then-is_before c =
     let a = c.in-Playing-Release in
     let v = c.loop-event.invariant in
     let g = at_state a.is-0 v.3 in
@@ -61,8 +61,8 @@ loop-event-smaller-then-is-before c =
     let m = fewer _ _ _ _ _ _ _ a.ticket c.in-Some.at g (at_next _ _ _ _ a.is-0 a.is-1 c.in-Some.ensures.next) in
     omega (arith, m, length_put (λ (x : Rank). x.number) _ _ _ put, ap busy a.is-0)
 
-pub loop-event-preserved-then-is-before : goal.loop-event-preserved-then-is-before
-loop-event-preserved-then-is-before c =
+pub loop-event-preserved-then-is_before : goal.loop-event-preserved-then-is_before
+loop-event-preserved-then-is_before c =
     let a = c.in-Playing-Release in
     let v = c.loop-event.invariant in
     let xs = c.args.entries.now in
@@ -72,7 +72,7 @@ loop-event-preserved-then-is-before c =
     let e = c.index-entries-old.is ∙ get_or_default xs a.old c.index-entries-old.result blank g.on.0 in
     let put = taken c.loop-event.ready c.rank-other.result c.push.result c.push.new.self (omega (arith, v.2, g.count, g.few)) p.pushed in
     let over : higher c.rank-other.result (rank_of xs a.ticket) ≡ false =
-    subst (λ (z : Rank). higher c.rank-other.result z ≡ false) c.rank-own.ensures (higher_asym c.rank-own.result c.rank-other.result (sym c.is-before.ensures ∙ c.if-is-before.true)) in (
+    subst (λ (z : Rank). higher c.rank-other.result z ≡ false) c.rank-own.ensures (higher_asym c.rank-own.result c.rank-other.result (sym c.is_before.ensures ∙ c.if-is_before.true)) in (
       c.in-Some.ensures.sound,
       p.sound,
       p.slots.long ∙ v.2,
@@ -80,26 +80,26 @@ loop-event-preserved-then-is-before c =
           c.rank-other.result c.rank-other.ensures put over s.result (s.ensures.value ∙ ap (λ (y : Work). stretch_of y a.since c.in-Some.at) e) s.ensures.most,
     )
 
-pub loop-event-smaller-else-is-before : goal.loop-event-smaller-else-is-before
-loop-event-smaller-else-is-before c =
+pub loop-event-smaller-else-is_before : goal.loop-event-smaller-else-is_before
+loop-event-smaller-else-is_before c =
     let a = c.in-Playing-Release in
     let v = c.loop-event.invariant in
     let g = at_state a.is-0 v.3 in
-    let p = c.push-else-is-before in
+    let p = c.push-else-is_before in
     let put = taken c.loop-event.ready c.rank-own.result p.result p.new.self (omega (arith, v.2, g.count, g.few)) p.ensures.pushed in
     let m = fewer _ _ _ _ _ _ _ a.ticket c.in-Some.at g (at_next _ _ _ _ a.is-0 a.is-1 c.in-Some.ensures.next) in
     omega (arith, m, length_put (λ (x : Rank). x.number) _ _ _ put, ap busy a.is-0)
 
-pub loop-event-preserved-else-is-before : goal.loop-event-preserved-else-is-before
-loop-event-preserved-else-is-before c =
+pub loop-event-preserved-else-is_before : goal.loop-event-preserved-else-is_before
+loop-event-preserved-else-is_before c =
     let a = c.in-Playing-Release in
     let v = c.loop-event.invariant in
     let xs = c.args.entries.now in
     let g = at_state a.is-0 v.3 in
-    let p = c.push-else-is-before in
+    let p = c.push-else-is_before in
     let put = taken c.loop-event.ready c.rank-own.result p.result p.new.self (omega (arith, v.2, g.count, g.few)) p.ensures.pushed in
     let under : higher c.rank-own.result (rank_of xs a.old) ≡ false =
-    subst (λ (z : Rank). higher c.rank-own.result z ≡ false) c.rank-other.ensures (sym c.is-before.ensures ∙ c.if-is-before.false) in (
+    subst (λ (z : Rank). higher c.rank-own.result z ≡ false) c.rank-other.ensures (sym c.is_before.ensures ∙ c.if-is_before.false) in (
       c.in-Some.ensures.sound,
       p.ensures.sound,
       p.ensures.slots.long ∙ v.2,
@@ -146,5 +146,5 @@ loop-event-preserved c =
 pub returns : goal.returns
 returns c =
     let l = c.loop-event in
-    let n = c.in-default.ensures.next in
+    let n = c.in_default.ensures.next in
     record { busy = all_over c.args.entries.now l.state _ _ l.left l.spent l.invariant.3 n.0 n.1; most = omega (arith, l.invariant.3.cheap) }

@@ -11,4 +11,4 @@ returns c =
     let p = c.build.result in
     let e = c.tickets-tickets.ensures in
     subst (λ (ts : List Ticket). LeastPrice ts rs p) e
-    (free_made c.tickets-tickets.result.now rs c.working-entries-entries.result _ (omega (arith, few_posted c.args.collection.now, ap length e)) c.working-entries-entries.ensures (omega arith) p c.build.ensures)
+    (free_made c.tickets-tickets.result.now rs c.working_entries-entries.result _ (omega (arith, few_posted c.args.collection.now, ap length e)) c.working_entries-entries.ensures (omega arith) p c.build.ensures)

@@ -26,10 +26,10 @@ returns c =
     let rs = c.args.releases.now in
     let i = c.args.ticket in
     let t = c.args.start in
-    let p = c.build-pinned.result in
+    let p = c.build_pinned.result in
     let e = c.tickets-tickets.ensures in
     let n = ap length e in (
       clear _ i t (omega arith) (omega arith),
       subst (λ (ts : List Ticket). LeastPinned ts rs i t p) e
-          (pinned_made c.tickets-tickets.result.now rs c.working-entries-entries.result _ (omega (arith, few_posted c.args.collection.now)) c.working-entries-entries.ensures (omega arith) i t p (omega arith) c.build-pinned.ensures.price),
+          (pinned_made c.tickets-tickets.result.now rs c.working_entries-entries.result _ (omega (arith, few_posted c.args.collection.now)) c.working_entries-entries.ensures (omega arith) i t p (omega arith) c.build_pinned.ensures.price),
     )

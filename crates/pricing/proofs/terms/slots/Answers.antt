@@ -2,8 +2,8 @@ use Rattle.std.proofs.Common.{◌-◌, arith}
 use Rattle.pricing.proofs.Amounts.{product_le, product_ge, slots_is}
 use Rattle.pricing.proofs.terms.slots.Goals as goal
 
-pub overflow-sub-result : goal.overflow-sub-result
-overflow-sub-result c = product_ge c.args.since (c.args.until - c.args.since) (omega arith) (omega arith)
+pub overflow_sub-result : goal.overflow_sub-result
+overflow_sub-result c = product_ge c.args.since (c.args.until - c.args.since) (omega arith) (omega arith)
 
 pub returns : goal.returns
 returns c =

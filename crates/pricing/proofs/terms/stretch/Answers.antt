@@ -6,8 +6,8 @@ use Rattle.pricing.proofs.terms.stretch.Goals as goal
 most : (c : goal.After-slots) → c.args.entry.weight * c.quotient.result * c.slots.result ≤ most_stretch
 most c = stretch_le _ _ _ c.args.entry.light (quotient_most c.args.entry c.quotient.result c.quotient.ensures) c.slots.ensures.most
 
-pub overflow-mul-result-2 : goal.overflow-mul-result-2
-overflow-mul-result-2 c = omega (arith, most c)
+pub overflow_mul-result-2 : goal.overflow_mul-result-2
+overflow_mul-result-2 c = omega (arith, most c)
 
 pub returns : goal.returns
 returns c =

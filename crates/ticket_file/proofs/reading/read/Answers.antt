@@ -18,19 +18,19 @@ loop-place-init c =
     let told = c.in-Ok.ensures in
     started _ _ _ _ told.0 told.1 refl c.new-records.ensures.items
 
-pub returns-in-err-push : goal.returns-in-err-push
-returns-in-err-push c = record { read = IfOk-from_err _ _ c.from-residual.ensures.0; injective = injective }
+pub returns-in_err-push : goal.returns-in_err-push
+returns-in_err-push c = record { read = IfOk-from_err _ _ c.from_residual.ensures.0; injective = injective }
 
 pub loop-place-preserved : goal.loop-place-preserved
 loop-place-preserved c =
-    let told = c.in-Ok-record-at.ensures _ c.loop-place.invariant.sofar in
-    let items = pushed (c.in-Ok-record-at.step.placed ∷ []) refl c.in-ok-push.was c.push.ensures.items in
-    more _ _ _ _ _ _ _ c.in-Ok-record-at.step.placed c.loop-place.invariant items told.0 told.1
+    let told = c.in-Ok-record_at.ensures _ c.loop-place.invariant.sofar in
+    let items = pushed (c.in-Ok-record_at.step.placed ∷ []) refl c.in_ok-push.was c.push.ensures.items in
+    more _ _ _ _ _ _ _ c.in-Ok-record_at.step.placed c.loop-place.invariant items told.0 told.1
 
-pub returns-in-Err-record-at : goal.returns-in-Err-record-at
-returns-in-Err-record-at c =
+pub returns-in-Err-record_at : goal.returns-in-Err-record_at
+returns-in-Err-record_at c =
     let inv = c.loop-place.invariant in
-    record { read = faulted _ _ inv.rs _ inv.are refl (c.in-Err-record-at.ensures _ inv.sofar) (inr (upto _ _ _ _ inv.sofar)); injective = injective }
+    record { read = faulted _ _ inv.rs _ inv.are refl (c.in-Err-record_at.ensures _ inv.sofar) (inr (upto _ _ _ _ inv.sofar)); injective = injective }
 
 pub returns : goal.returns
 returns c =
