@@ -7,11 +7,11 @@ use Rattle.queries.specs.Judging.{starts}
 use Rattle.queries.proofs.Plans.{part_le}
 use Rattle.queries.proofs.judging.plan_cost.Goals as goal
 
-pub overflow-mul-sum : goal.overflow-mul-sum
-overflow-mul-sum c = omega (arith, part_le c.index-tickets-i.result (get_or c.args.plan.now c.loop-i.i 0) (omega arith))
+pub overflow_mul-sum : goal.overflow_mul-sum
+overflow_mul-sum c = omega (arith, part_le c.index-tickets-i.result (get_or c.args.plan.now c.loop-i.i 0) (omega arith))
 
-pub overflow-add-sum-in-loop-i : goal.overflow-add-sum-in-loop-i
-overflow-add-sum-in-loop-i c = omega (arith, part_le c.index-tickets-i.result (get_or c.args.plan.now c.loop-i.i 0) (omega arith), c.loop-i.invariant.1, c.requires)
+pub overflow_add-sum-in-loop-i : goal.overflow_add-sum-in-loop-i
+overflow_add-sum-in-loop-i c = omega (arith, part_le c.index-tickets-i.result (get_or c.args.plan.now c.loop-i.i 0) (omega arith), c.loop-i.invariant.1, c.requires)
 
 pub loop-i-preserved : goal.loop-i-preserved
 loop-i-preserved c =

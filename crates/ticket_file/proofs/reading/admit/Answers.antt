@@ -17,7 +17,7 @@ returns-in_default c =
     let k : kind (plain c.args.item.now) ≡ 66 = grind arith in
     early _ _ e k
 
-pub returns-in_default·2 : goal.returns-in_default·2
-returns-in_default·2 c =
+pub returns-in_default-2 : goal.returns-in_default-2
+returns-in_default-2 c =
     let e : c.args.stage ≡ Bans = cc in
     late _ _ e (λ k. grind arith)

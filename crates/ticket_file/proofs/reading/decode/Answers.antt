@@ -2,7 +2,7 @@ use Rattle.std.proofs.Common.{◌≡◌, ◌<◌, ◌≤◌, [], length, sym, re
 use Rattle.ticket_file.specs.Format.{ticket, ceiling, ban}
 use Rattle.ticket_file.proofs.Fronts.{ticket_is, ceiling_is, ban_is, no_ticket, no_ceiling, no_ban}
 use Rattle.ticket_file.proofs.reading.decode.Goals as goal
-use Rattle.ticket_file.proofs.reading.decode.Goals.{in-84·+then-body-lt5, in-84-len5-up+else-label-le-LONGEST_LABEL, in-67·+then-this-lt4, in-67·+else-this-lt4+else-this-lt5, in-66·+then-this-lt2, in-66·+else-this-lt2+else-this-lt3}
+use Rattle.ticket_file.proofs.reading.decode.Goals.{in-84+then-body-lt5, in-84-len5-up+else-label-le-LONGEST_LABEL, in-67+then-this-lt4, in-67+else-this-lt4+else-this-lt5, in-66+then-this-lt2, in-66+else-this-lt2+else-this-lt3}
 
 pub returns-in-84-len5-up : goal.returns-in-84-len5-up
 returns-in-84-len5-up c =
@@ -25,11 +25,11 @@ returns-in-66-len2 c =
 
 pub returns-in-84-default : goal.returns-in-84-default
 returns-in-84-default c =
-    elim c.in-84-default·.branch [
-      | in-84·+then-body-lt5 w ↦ inr (refl, no_ticket _ _ (search rules) (inl (search rules)), λ none. none (ticket (record { first = 0; last = 0; length = 0; weight = 0 }) []) (search rules))
+    elim c.in-84-default-1.branch [
+      | in-84+then-body-lt5 w ↦ inr (refl, no_ticket _ _ (search rules) (inl (search rules)), λ none. none (ticket (record { first = 0; last = 0; length = 0; weight = 0 }) []) (search rules))
       | in-84-len5-up+else-label-le-LONGEST_LABEL w ↦ inr (refl, no_ticket _ _ (search rules) (inr (search rules)), λ none. none (ticket (record { first = 0; last = 0; length = 0; weight = 0 }) []) (search rules))
-      | in-67·+then-this-lt4 w ↦ inr (refl, no_ceiling _ _ (search rules) (λ e. search rules), λ none. none (ceiling 0) (search rules))
-      | in-67·+else-this-lt4+else-this-lt5 w ↦ inr (refl, no_ceiling _ _ (search rules) (λ e. search rules), λ none. none (ceiling 0) (search rules))
-      | in-66·+then-this-lt2 w ↦ inr (refl, no_ban _ _ (search rules) (λ e. search rules), λ none. none (ban 0 0) (search rules))
-      | in-66·+else-this-lt2+else-this-lt3 w ↦ inr (refl, no_ban _ _ (search rules) (λ e. search rules), λ none. none (ban 0 0) (search rules))
+      | in-67+then-this-lt4 w ↦ inr (refl, no_ceiling _ _ (search rules) (λ e. search rules), λ none. none (ceiling 0) (search rules))
+      | in-67+else-this-lt4+else-this-lt5 w ↦ inr (refl, no_ceiling _ _ (search rules) (λ e. search rules), λ none. none (ceiling 0) (search rules))
+      | in-66+then-this-lt2 w ↦ inr (refl, no_ban _ _ (search rules) (λ e. search rules), λ none. none (ban 0 0) (search rules))
+      | in-66+else-this-lt2+else-this-lt3 w ↦ inr (refl, no_ban _ _ (search rules) (λ e. search rules), λ none. none (ban 0 0) (search rules))
     ]

@@ -1,6 +1,5 @@
 use Rattle.std.proofs.Common.{◌≡◌, [], ◌∷◌, ◌++◌, map, length, sym, refl, ap, ◌∙◌, inl, inr, arith}
 use Rattle.std.proofs.lemmas.Slice.{pushed}
-use Rattle.std.proofs.lemmas.Result.{IfOk-from_err}
 use Rattle.ticket_file.specs.Readings.{seen}
 use Rattle.ticket_file.proofs.Unique.{injective}
 use Rattle.ticket_file.proofs.Steps.{upto, opened, unfinished, finished}
@@ -18,13 +17,13 @@ loop-place-init c =
     let told = c.in-Ok.ensures in
     started _ _ _ _ told.0 told.1 refl c.new-records.ensures.items
 
-pub returns-in_err-push : goal.returns-in_err-push
-returns-in_err-push c = record { read = IfOk-from_err _ _ c.from_residual.ensures.0; injective = injective }
+pub returns-in_err-push-in-Ok-record_at-clause-injective : goal.returns-in_err-push-in-Ok-record_at-clause-injective
+returns-in_err-push-in-Ok-record_at-clause-injective c = injective
 
 pub loop-place-preserved : goal.loop-place-preserved
 loop-place-preserved c =
     let told = c.in-Ok-record_at.ensures _ c.loop-place.invariant.sofar in
-    let items = pushed (c.in-Ok-record_at.step.placed ∷ []) refl c.in_ok-push.was c.push.ensures.items in
+    let items = pushed (c.in-Ok-record_at.step.placed ∷ []) refl c.in_ok-push-in-Ok-record_at.was c.push.ensures.items in
     more _ _ _ _ _ _ _ c.in-Ok-record_at.step.placed c.loop-place.invariant items told.0 told.1
 
 pub returns-in-Err-record_at : goal.returns-in-Err-record_at
