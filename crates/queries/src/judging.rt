@@ -9,7 +9,7 @@ use tickets::{Collection, PlannerRefusal, Ticket};
 
 /// Whether every start is in its row.
 fn in_rows<S: Store>(store: &S, plan: &[u16]) -> bool
-    ensures { Tells result (InRows (rows store.now) plan.now) }
+    ensures { Tells result (InRows (S.rows store.now) plan.now) }
 {
     for i in 0..plan.len() {
         if !store.holds(i, plan[i] as usize) {
@@ -69,7 +69,7 @@ pub fn judge<S: Store>(
     store: &S,
     plan: &[u16],
 ) -> Result<u32, PlannerRefusal>
-    ensures { Judged (posted collection.now) ceiling (rows store.now) plan.now result }
+    ensures { Judged (posted collection.now) ceiling (S.rows store.now) plan.now result }
 {
     let tickets = collection.tickets();
     if plan.len() != tickets.len() {

@@ -11,7 +11,7 @@ const LAST_START: usize = 255;
 /// The first start of each ticket's row, and 0 for the numbers that no ticket has. There are none where some
 /// ticket's row is empty.
 pub fn releases<S: Store>(collection: &Collection, store: &S) -> Option<[u8; 24]>
-    ensures { Released (posted collection.now) (rows store.now) result }
+    ensures { Released (posted collection.now) (S.rows store.now) result }
 {
     let tickets = collection.tickets();
     let mut releases = [0u8; 24];
@@ -26,7 +26,7 @@ pub fn releases<S: Store>(collection: &Collection, store: &S) -> Option<[u8; 24]
 
 /// The least price of a spread with the releases of the table. There is none where some ticket's row is empty.
 pub fn free_price<S: Store>(collection: &Collection, store: &S) -> Option<u64>
-    ensures { FreeAnswer (posted collection.now) (rows store.now) result }
+    ensures { FreeAnswer (posted collection.now) (S.rows store.now) result }
 {
     let first = releases(collection, store)?;
     Some(pricing::free_price(collection, &first))
@@ -40,7 +40,7 @@ pub fn pinned_price<S: Store>(
     ticket: usize,
     start: usize,
 ) -> Result<Option<u64>, PlannerRefusal>
-    ensures { PinnedAnswer (posted collection.now) (rows store.now) ticket start result }
+    ensures { PinnedAnswer (posted collection.now) (S.rows store.now) ticket start result }
 {
     if ticket >= collection.tickets().len() {
         return Err(PlannerRefusal::NoSuchTicket);
@@ -59,7 +59,7 @@ pub fn pinned_price<S: Store>(
 
 /// The free price in costs, rounded up; 0 where some ticket's row is empty.
 pub fn floor<S: Store>(collection: &Collection, store: &S) -> u64
-    ensures { FloorAnswer (posted collection.now) (rows store.now) result }
+    ensures { FloorAnswer (posted collection.now) (S.rows store.now) result }
 {
     let Some(first) = releases(collection, store) else {
         return 0;
