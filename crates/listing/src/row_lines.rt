@@ -11,7 +11,7 @@ use stores::Store;
 
 /// The first longest unbroken range of a row's starts, from the start `from` on.
 fn next_range<S: Store>(store: &S, row: usize, from: usize) -> Option<Range>
-    ensures { NextRange (rows store.now row) from result }
+    ensures { NextRange (S.rows store.now row) from result }
 {
     let Some(first) = store.after(row, from) else {
         return None;
@@ -43,7 +43,7 @@ fn place_range(buffer: &mut [u8], at: usize, range: Range) -> usize
 
 /// How many bytes the ranges of a row take.
 fn ranges_length<S: Store>(store: &S, row: usize) -> usize
-    ensures { Long (RangesOf (rows store.now row)) result × (result ≤ 5500) }
+    ensures { Long (RangesOf (S.rows store.now row)) result × (result ≤ 5500) }
 {
     let mut length = 0;
     let mut from = 0;
@@ -56,8 +56,8 @@ fn ranges_length<S: Store>(store: &S, row: usize) -> usize
 
 /// Writes the ranges of a row.
 fn place_ranges<S: Store>(buffer: &mut [u8], at: usize, store: &S, row: usize) -> usize
-    requires { Fits (RangesOf (rows store.now row)) at (length buffer.old) }
-    ensures { Writes (RangesOf (rows store.now row)) buffer.old at buffer.new result }
+    requires { Fits (RangesOf (S.rows store.now row)) at (length buffer.old) }
+    ensures { Writes (RangesOf (S.rows store.now row)) buffer.old at buffer.new result }
 {
     let mut end = at;
     let mut from = 0;
@@ -70,15 +70,15 @@ fn place_ranges<S: Store>(buffer: &mut [u8], at: usize, store: &S, row: usize) -
 
 /// How many bytes the line of a ticket has.
 fn row_length<S: Store>(store: &S, row: usize) -> usize
-    ensures { Long (LineOf (rows store.now row) row) result × (result ≤ 5521) }
+    ensures { Long (LineOf (S.rows store.now row) row) result × (result ≤ 5521) }
 {
     number_length(row as u64) + ranges_length(store, row) + 1
 }
 
 /// Writes the line of a ticket.
 fn place_row<S: Store>(buffer: &mut [u8], at: usize, store: &S, row: usize) -> usize
-    requires { Fits (LineOf (rows store.now row) row) at (length buffer.old) }
-    ensures { Writes (LineOf (rows store.now row) row) buffer.old at buffer.new result }
+    requires { Fits (LineOf (S.rows store.now row) row) at (length buffer.old) }
+    ensures { Writes (LineOf (S.rows store.now row) row) buffer.old at buffer.new result }
 {
     let at = place_number(buffer, at, row as u64);
     let at = place_ranges(buffer, at, store, row);
@@ -88,7 +88,7 @@ fn place_row<S: Store>(buffer: &mut [u8], at: usize, store: &S, row: usize) -> u
 /// How many bytes the lines of the first `count` tickets have.
 pub(crate) fn rows_length<S: Store>(store: &S, count: usize) -> usize
     requires { count ≤ 24 }
-    ensures { Long (LinesOf (rows store.now) count) result × (result ≤ 132504) }
+    ensures { Long (LinesOf (S.rows store.now) count) result × (result ≤ 132504) }
 {
     let mut length = 0;
     for row in 0..count {
@@ -99,8 +99,8 @@ pub(crate) fn rows_length<S: Store>(store: &S, count: usize) -> usize
 
 /// Writes the lines of the first `count` tickets.
 pub(crate) fn place_rows<S: Store>(buffer: &mut [u8], at: usize, store: &S, count: usize) -> usize
-    requires { Fits (LinesOf (rows store.now) count) at (length buffer.old) }
-    ensures { Writes (LinesOf (rows store.now) count) buffer.old at buffer.new result }
+    requires { Fits (LinesOf (S.rows store.now) count) at (length buffer.old) }
+    ensures { Writes (LinesOf (S.rows store.now) count) buffer.old at buffer.new result }
 {
     let mut end = at;
     for row in 0..count {

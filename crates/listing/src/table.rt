@@ -14,7 +14,7 @@ use tickets::{Collection, PlannerRefusal};
 /// How many bytes the listing of the first `count` rows has.
 fn text_length<S: Store>(floor: u64, ceiling: u32, store: &S, count: usize) -> usize
     requires { count ≤ 24 }
-    ensures { Long (TextOf floor ceiling (rows store.now) count) result }
+    ensures { Long (TextOf floor ceiling (S.rows store.now) count) result }
 {
     line_length(b"floor ", floor)
         + line_length(b"ceiling ", ceiling as u64)
@@ -29,8 +29,8 @@ fn place_text<S: Store>(
     store: &S,
     count: usize,
 ) -> usize
-    requires { Fits (TextOf floor ceiling (rows store.now) count) 0 (length buffer.old) }
-    ensures { Writes (TextOf floor ceiling (rows store.now) count) buffer.old 0 buffer.new result }
+    requires { Fits (TextOf floor ceiling (S.rows store.now) count) 0 (length buffer.old) }
+    ensures { Writes (TextOf floor ceiling (S.rows store.now) count) buffer.old 0 buffer.new result }
 {
     let at = place_line(buffer, 0, b"floor ", floor);
     let at = place_line(buffer, at, b"ceiling ", ceiling as u64);
@@ -39,7 +39,7 @@ fn place_text<S: Store>(
 
 /// How many bytes the listing has.
 pub fn listing_length<S: Store>(collection: &Collection, ceiling: u32, store: &S) -> usize
-    ensures { (text : List ℕ) × Lists (posted collection.now) ceiling (rows store.now) text × (result ≡ length text) }
+    ensures { (text : List ℕ) × Lists (posted collection.now) ceiling (S.rows store.now) text × (result ≡ length text) }
 {
     text_length(
         floor(collection, store),
@@ -57,7 +57,7 @@ pub fn write_listing<S: Store>(
     store: &S,
     buffer: &mut [u8],
 ) -> Result<usize, PlannerRefusal>
-    ensures { Listed (posted collection.now) ceiling (rows store.now) buffer.old result buffer.new }
+    ensures { Listed (posted collection.now) ceiling (S.rows store.now) buffer.old result buffer.new }
 {
     let floor = floor(collection, store);
     let count = collection.tickets().len();

@@ -16,7 +16,7 @@ const MOST_LEVELS: usize = 32;
 impl<S: Store> Planner<S> {
     /// Takes one start out of a ticket's row.
     pub fn ban(&mut self, ticket: usize, start: usize) -> Result<(), PlannerRefusal>
-        ensures { Moved rows self.old (Ban ticket start) (done result) self.new }
+        ensures { Moved S.rows self.old (Ban ticket start) (done result) self.new }
     {
         if ticket >= self.collection.tickets().len() {
             return Err(PlannerRefusal::NoSuchTicket);
@@ -35,7 +35,7 @@ impl<S: Store> Planner<S> {
 
     /// Takes all other starts out of a ticket's row.
     pub fn fix(&mut self, ticket: usize, start: usize) -> Result<(), PlannerRefusal>
-        ensures { Moved rows self.old (Fix ticket start) (done result) self.new }
+        ensures { Moved S.rows self.old (Fix ticket start) (done result) self.new }
     {
         if ticket >= self.collection.tickets().len() {
             return Err(PlannerRefusal::NoSuchTicket);
@@ -51,7 +51,7 @@ impl<S: Store> Planner<S> {
 
     /// Sets a smaller ceiling.
     pub fn lower(&mut self, ceiling: u32) -> Result<(), PlannerRefusal>
-        ensures { Moved rows self.old (Lower ceiling) (done result) self.new }
+        ensures { Moved S.rows self.old (Lower ceiling) (done result) self.new }
     {
         if ceiling >= self.ceiling {
             return Err(PlannerRefusal::CeilingNotLower);
@@ -62,7 +62,7 @@ impl<S: Store> Planner<S> {
 
     /// Opens a level, and answers its token.
     pub fn mark(&mut self) -> Result<Token, PlannerRefusal>
-        ensures { Moved rows self.old Mark (opened result) self.new }
+        ensures { Moved S.rows self.old Mark (opened result) self.new }
     {
         let depth = self.depth;
         if depth >= MOST_LEVELS {
@@ -78,7 +78,7 @@ impl<S: Store> Planner<S> {
 
     /// Joins the newest level to the one below, and spends its token.
     pub fn keep(&mut self, token: Token) -> Result<(), TokenRefused>
-        ensures moved { Moved rows self.old (Keep token.stamp token.level) (closed result) self.new }
+        ensures moved { Moved S.rows self.old (Keep token.stamp token.level) (closed result) self.new }
         ensures token { HandedBack token result }
     {
         if !is_newest(&token, self.stamp, self.depth) {
@@ -93,7 +93,7 @@ impl<S: Store> Planner<S> {
 
     /// Puts back every start that was taken out since the newest level's mark, closes it, and spends its token.
     pub fn undo(&mut self, token: Token) -> Result<(), TokenRefused>
-        ensures moved { Moved rows self.old (Undo token.stamp token.level) (closed result) self.new }
+        ensures moved { Moved S.rows self.old (Undo token.stamp token.level) (closed result) self.new }
         ensures token { HandedBack token result }
     {
         if !is_newest(&token, self.stamp, self.depth) {

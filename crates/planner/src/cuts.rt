@@ -11,7 +11,7 @@ use stores::{BitStore, Store};
 /// How many starts the first `tickets` rows have.
 pub(crate) fn count_starts<S: Store>(store: &S, tickets: usize) -> usize
     requires { tickets ≤ 24 }
-    ensures { result ≡ sum_to tickets (λ i. size_of (rows store.now i)) }
+    ensures { result ≡ sum_to tickets (λ i. size_of (S.rows store.now i)) }
 {
     let mut starts = 0;
     for row in 0..tickets {

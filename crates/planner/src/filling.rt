@@ -9,7 +9,7 @@ use tickets::Ticket;
 
 /// Takes every start out of a row.
 fn empty_row<S: Store>(store: &mut S, row: usize)
-    ensures { rows store.new ≡ without_row (rows store.old) row }
+    ensures { S.rows store.new ≡ without_row (S.rows store.old) row }
 {
     let mut next = 0;
     while let Some(start) = store.after(row, next) {
@@ -21,7 +21,7 @@ fn empty_row<S: Store>(store: &mut S, row: usize)
 /// Puts the starts from `first` to `last` into a row.
 fn fill_row<S: Store>(store: &mut S, row: usize, first: u8, last: u8)
     requires { (row < 24) × (first ≤ last) }
-    ensures { rows store.new ≡ union (rows store.old) (range_of row first last) }
+    ensures { S.rows store.new ≡ union (S.rows store.old) (range_of row first last) }
 {
     for start in first as usize..last as usize + 1 {
         let _ = store.put_back(row, start);
@@ -31,7 +31,7 @@ fn fill_row<S: Store>(store: &mut S, row: usize, first: u8, last: u8)
 /// Empties the store, and fills the row of each ticket with its first to last start.
 pub(crate) fn fill<S: Store>(store: &mut S, tickets: &[Ticket])
     requires { length tickets.now ≤ 24 }
-    ensures { rows store.new ≡ posted (setting tickets.now) }
+    ensures { S.rows store.new ≡ posted (setting tickets.now) }
 {
     for row in 0..ROWS {
         empty_row(store, row);

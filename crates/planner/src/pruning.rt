@@ -14,7 +14,7 @@ impl<S: Store> Planner<S> {
     /// The list is enough if it has a word for each start that stands, less one for each ticket. A cut is listed as
     /// 256 × ticket + start.
     pub fn prune(&mut self, cuts: &mut [u16]) -> Result<usize, PlannerRefusal>
-        ensures { Pruned rows self.old cuts.old result self.new cuts.new }
+        ensures { Pruned S.rows self.old cuts.old result self.new cuts.new }
     {
         let tickets = self.collection.tickets().len();
         let standing = count_starts(&self.store, tickets);

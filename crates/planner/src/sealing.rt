@@ -9,7 +9,7 @@ impl<S: Store> Planner<S> {
     /// A planner over the tickets of the collection. Whatever the store held, it now holds the first to the last start
     /// of each ticket. The stamp tells the planner's tokens from those of others.
     pub fn seal(collection: Collection, store: S, stamp: u16) -> Planner<S>
-        ensures { Sealed rows collection stamp result }
+        ensures { Sealed S.rows collection stamp result }
     {
         let mut store = store;
         fill(&mut store, collection.tickets());

@@ -29,9 +29,9 @@ pub(crate) fn pour<S: Store, F: Store>(into: &mut S, from: &F)
 
 /// Takes a start that stands out of the store, and notes it in `gone`.
 pub(crate) fn cut<S: Store>(store: &mut S, gone: &mut BitStore, row: usize, start: usize)
-    requires { rows store.old row start ≡ true }
-    ensures table { rows store.new ≡ without (rows store.old) row start }
-    ensures out { Out (rows store.old) (bit_rows gone.old) (rows store.new) (bit_rows gone.new) }
+    requires { S.rows store.old row start ≡ true }
+    ensures table { S.rows store.new ≡ without (S.rows store.old) row start }
+    ensures out { Out (S.rows store.old) (bit_rows gone.old) (S.rows store.new) (bit_rows gone.new) }
 {
     let _ = store.take_out(row, start);
     let _ = gone.put_back(row, start);
@@ -39,8 +39,8 @@ pub(crate) fn cut<S: Store>(store: &mut S, gone: &mut BitStore, row: usize, star
 
 /// Takes every start but one out of a row, and notes them in `gone`.
 pub(crate) fn cut_others<S: Store>(store: &mut S, gone: &mut BitStore, row: usize, stay: usize)
-    ensures table { rows store.new ≡ fixed (rows store.old) row stay }
-    ensures out { Out (rows store.old) (bit_rows gone.old) (rows store.new) (bit_rows gone.new) }
+    ensures table { S.rows store.new ≡ fixed (S.rows store.old) row stay }
+    ensures out { Out (S.rows store.old) (bit_rows gone.old) (S.rows store.new) (bit_rows gone.new) }
 {
     let mut next = 0;
     while let Some(start) = store.after(row, next) {

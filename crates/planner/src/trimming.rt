@@ -36,7 +36,7 @@ fn supported(
 
 /// What became of the least start of a row, which was `old`.
 fn least_start<S: Store>(store: &S, row: usize, old: u8) -> Trimmed
-    ensures { LeastStart (rows store.now row) old result }
+    ensures { LeastStart (S.rows store.now row) old result }
 {
     match store.after(row, 0) {
         None => Trimmed::Emptied,
@@ -60,9 +60,9 @@ fn trim_row<S: Store>(
     row: usize,
 ) -> Trimmed
     requires { (row < length (posted collection.now)) × (length (posted collection.now) ≤ 24) }
-    ensures trim { RowTrim (setting (posted collection.now)) ceiling (release releases.now) row (rows store.old) (rows store.new) }
-    ensures out { Out (rows store.old) (bit_rows gone.old) (rows store.new) (bit_rows gone.new) }
-    ensures least { LeastStart (rows store.new row) (release releases.now row) result }
+    ensures trim { RowTrim (setting (posted collection.now)) ceiling (release releases.now) row (S.rows store.old) (S.rows store.new) }
+    ensures out { Out (S.rows store.old) (bit_rows gone.old) (S.rows store.new) (bit_rows gone.new) }
+    ensures least { LeastStart (S.rows store.new row) (release releases.now row) result }
 {
     let mut next = 0;
     while let Some(start) = store.after(row, next) {
@@ -82,9 +82,9 @@ fn trim_round<S: Store>(
     store: &mut S,
     gone: &mut BitStore,
 ) -> Trimmed
-    requires { ReleasesOf (posted collection.now) (rows store.old) releases.now }
-    ensures trim { Trim (setting (posted collection.now)) ceiling (rows store.old) (bit_rows gone.old) (rows store.new) (bit_rows gone.new) }
-    ensures done { RoundDone (setting (posted collection.now)) ceiling (rows store.old) (rows store.new) result }
+    requires { ReleasesOf (posted collection.now) (S.rows store.old) releases.now }
+    ensures trim { Trim (setting (posted collection.now)) ceiling (S.rows store.old) (bit_rows gone.old) (S.rows store.new) (bit_rows gone.new) }
+    ensures done { RoundDone (setting (posted collection.now)) ceiling (S.rows store.old) (S.rows store.new) result }
 {
     let mut moved = false;
     for row in 0..collection.tickets().len() {
@@ -107,8 +107,8 @@ pub(crate) fn settle<S: Store>(
     store: &mut S,
     gone: &mut BitStore,
 ) -> bool
-    ensures trim { Trim (setting (posted collection.now)) ceiling (rows store.old) (bit_rows gone.old) (rows store.new) (bit_rows gone.new) }
-    ensures done { Settled (setting (posted collection.now)) ceiling (rows store.old) (rows store.new) result }
+    ensures trim { Trim (setting (posted collection.now)) ceiling (S.rows store.old) (bit_rows gone.old) (S.rows store.new) (bit_rows gone.new) }
+    ensures done { Settled (setting (posted collection.now)) ceiling (S.rows store.old) (S.rows store.new) result }
 {
     loop {
         let Some(releases) = queries::releases(collection, store) else {

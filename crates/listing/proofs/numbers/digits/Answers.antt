@@ -5,8 +5,8 @@ use Rattle.listing.proofs.numbers.digits.Goals as goal
 pub loop-rest-init : goal.loop-rest-init
 loop-rest-init c = spelt_none _ _ (search rules) refl
 
-pub overflow-sub-at-in-loop-rest : goal.overflow-sub-at-in-loop-rest
-overflow-sub-at-in-loop-rest c = spelt_on _ _ _ _ c.loop-rest.invariant (search rules)
+pub overflow_sub-at-in-loop-rest : goal.overflow_sub-at-in-loop-rest
+overflow_sub-at-in-loop-rest c = spelt_on _ _ _ _ c.loop-rest.invariant (search rules)
 
 pub loop-rest-preserved : goal.loop-rest-preserved
 loop-rest-preserved c = spelt_more _ _ _ _ c.loop-rest.invariant (search rules)

@@ -6,4 +6,4 @@ use Rattle.listing.proofs.numbers.place.Goals as goal
 pub returns : goal.returns
 returns c =
     placed_is c.args.buffer.now c.args.text.now _ c.args.at c.requires
-    (ap (put_mid c.args.at (c.args.at + length c.args.text.now - c.args.at) c.args.buffer.now) c.copy-from-slice.ensures.after)
+    (ap (put_mid c.args.at (c.args.at + length c.args.text.now - c.args.at) c.args.buffer.now) c.copy_from_slice.ensures.after)

@@ -6,18 +6,18 @@ use Rattle.listing.proofs.numbers.place_line.Goals as goal
 pub place-at-requires : goal.place-at-requires
 place-at-requires c = omega (arith, c.requires, line_length c.args.word.now c.args.n)
 
-pub place-number-at-requires : goal.place-number-at-requires
-place-number-at-requires c =
+pub place_number-at-requires : goal.place_number-at-requires
+place_number-at-requires c =
     let p = c.place-at.ensures in
     omega (arith, c.requires, line_length c.args.word.now c.args.n, p.ends, placed_same _ _ _ _ _ p)
 
 pub place-requires : goal.place-requires
 place-requires c =
-    let p = placed_more _ _ _ _ _ _ _ _ c.place-at.ensures c.place-number-at.ensures in
-    omega (arith, c.requires, line_length c.args.word.now c.args.n, c.place-at.ensures.ends, c.place-number-at.ensures.ends, placed_same _ _ _ _ _ p)
+    let p = placed_more _ _ _ _ _ _ _ _ c.place-at.ensures c.place_number-at.ensures in
+    omega (arith, c.requires, line_length c.args.word.now c.args.n, c.place-at.ensures.ends, c.place_number-at.ensures.ends, placed_same _ _ _ _ _ p)
 
 pub returns : goal.returns
 returns c =
-    let p = placed_more _ _ _ _ _ _ _ _ c.place-at.ensures c.place-number-at.ensures in
+    let p = placed_more _ _ _ _ _ _ _ _ c.place-at.ensures c.place_number-at.ensures in
     let q = placed_more _ _ _ _ _ _ _ _ p c.place.ensures in
     placed_text _ _ _ _ _ _ (append_assoc c.args.word.now (decimal c.args.n) (10 ∷ [])) q

@@ -5,16 +5,16 @@ use Rattle.listing.proofs.row_lines.place_ranges.Goals as goal
 pub loop-range-init : goal.loop-range-init
 loop-range-init g c = going_none _ _ _ c.requires
 
-pub place-range-end-requires : goal.place-range-end-requires
-place-range-end-requires g c = going_room _ _ _ _ _ _ c.loop-range.invariant _ c.in-Some.ensures
+pub place_range-end-requires : goal.place_range-end-requires
+place_range-end-requires g c = going_room _ _ _ _ _ _ c.loop-range.invariant _ c.in-Some.ensures
 
-pub overflow-add-from : goal.overflow-add-from
-overflow-add-from g c = omega (arith, leads_low _ _ _ _ (g.met.S.Store.bounded c.args.store.now) c.in-Some.ensures)
+pub overflow_add-from : goal.overflow_add-from
+overflow_add-from g c = omega (arith, leads_low _ _ _ _ (g.met.S.Store.bounded c.args.store.now) c.in-Some.ensures)
 
 pub loop-range-preserved : goal.loop-range-preserved
 loop-range-preserved g c =
     let h = c.in-Some.ensures in
-    going_more _ _ _ _ _ _ c.loop-range.invariant _ _ _ h (leads_low _ _ _ _ (g.met.S.Store.bounded c.args.store.now) h) c.place-range-end.ensures
+    going_more _ _ _ _ _ _ c.loop-range.invariant _ _ _ h (leads_low _ _ _ _ (g.met.S.Store.bounded c.args.store.now) h) c.place_range-end.ensures
 
 pub returns : goal.returns
-returns g c = going_all _ _ _ _ _ _ c.loop-range.invariant c.in-default.ensures
+returns g c = going_all _ _ _ _ _ _ c.loop-range.invariant c.in_default.ensures

@@ -4,8 +4,8 @@ use Rattle.stores.specs.Counts.{count_most}
 use Rattle.planner.proofs.Listing.{sum_step, sizes_most}
 use Rattle.planner.proofs.cuts.count_starts.Goals as goal
 
-pub overflow-add-starts : goal.overflow-add-starts
-overflow-add-starts g c =
+pub overflow_add-starts : goal.overflow_add-starts
+overflow_add-starts g c =
     let R = g.S.Store.rows c.args.store.now in
     omega (arith, c.size-starts.ensures, count_most (R c.loop-row.row) 256, sizes_most c.loop-row.row R, c.loop-row.invariant)
 

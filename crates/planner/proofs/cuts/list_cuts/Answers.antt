@@ -10,8 +10,8 @@ use Rattle.planner.proofs.cuts.list_cuts.Goals as goal
 pub loop-row-init : goal.loop-row-init
 loop-row-init c = (refl, words_none (bit_rows c.args.gone.now) c.args.cuts.now)
 
-pub list-row-count-requires : goal.list-row-count-requires
-list-row-count-requires c =
+pub list_row-count-requires : goal.list_row-count-requires
+list_row-count-requires c =
     let G = bit_rows c.args.gone.now in
     (omega (arith, c.requires.0), omega (arith, sizes_within c.loop-row.row c.args.tickets G c.loop-row-test.true, c.loop-row.invariant.0, c.requires.1))
 
@@ -19,8 +19,8 @@ pub loop-row-preserved : goal.loop-row-preserved
 loop-row-preserved c =
     let G = bit_rows c.args.gone.now in
     let row = c.loop-row.row in (
-      omega (arith, sum_step row (λ i. size_of (G i)), c.list-row-count.ensures.many, c.loop-row.invariant.0),
-      words_up _ _ _ _ _ _ _ (below_step G row) (omega arith) (c.list-row-count.ensures.words (rows_below G row) _ c.loop-row.invariant.1),
+      omega (arith, sum_step row (λ i. size_of (G i)), c.list_row-count.ensures.many, c.loop-row.invariant.0),
+      words_up _ _ _ _ _ _ _ (below_step G row) (omega arith) (c.list_row-count.ensures.words (rows_below G row) _ c.loop-row.invariant.1),
     )
 
 pub returns : goal.returns

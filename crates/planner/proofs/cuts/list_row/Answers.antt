@@ -20,23 +20,23 @@ room c =
     let G = bit_rows c.args.gone.now in
     omega (arith, count_next (G c.args.row) c.loop-start.next c.in-Some.start c.in-Some.ensures, count_within (G c.args.row) (c.in-Some.start + 1) (omega (arith, small c)), c.loop-start.invariant.1, c.requires.1)
 
-pub overflow-add-cuts : goal.overflow-add-cuts
-overflow-add-cuts c = omega (arith, small c, c.requires.0)
+pub overflow_add-cuts : goal.overflow_add-cuts
+overflow_add-cuts c = omega (arith, small c, c.requires.0)
 
-pub overflow-cast-cuts : goal.overflow-cast-cuts
-overflow-cast-cuts c = omega (arith, small c, c.requires.0)
+pub overflow_cast-cuts : goal.overflow_cast-cuts
+overflow_cast-cuts c = omega (arith, small c, c.requires.0)
 
-pub offset-bounds-cuts-end : goal.offset-bounds-cuts-end
-offset-bounds-cuts-end c = omega (arith, room c)
+pub offset_bounds-cuts-end : goal.offset_bounds-cuts-end
+offset_bounds-cuts-end c = omega (arith, room c)
 
 pub bounds-cuts-end : goal.bounds-cuts-end
 bounds-cuts-end c = omega (arith, room c)
 
-pub overflow-add-end : goal.overflow-add-end
-overflow-add-end c = omega (arith, room c)
+pub overflow_add-end : goal.overflow_add-end
+overflow_add-end c = omega (arith, room c)
 
-pub overflow-add-next : goal.overflow-add-next
-overflow-add-next c = omega (arith, small c)
+pub overflow_add-next : goal.overflow_add-next
+overflow_add-next c = omega (arith, small c)
 
 pub loop-start-smaller : goal.loop-start-smaller
 loop-start-smaller c = omega (arith, small c, c.in-Some.ensures.reached)
@@ -53,7 +53,7 @@ loop-start-preserved c =
 pub returns : goal.returns
 returns c =
     let G = bit_rows c.args.gone.now in
-    let none = c.in-default.ensures in
+    let none = c.in_default.ensures in
     record {
       words = λ P old h. words_up _ _ (256 * c.args.row + c.loop-start.next) (256 * (c.args.row + 1)) old _ _ (upto_done P G c.args.row c.loop-start.next none) (omega (arith, c.loop-start.invariant.0)) (c.loop-start.invariant.2 P old h);
       many = omega (arith, count_end (G c.args.row) c.loop-start.next c.loop-start.invariant.0 none, c.loop-start.invariant.1);

@@ -12,10 +12,10 @@ loop-row-preserved g c =
     let row = c.loop-row.row in
     elim c.if-row-tickets.branch [
       | then-row-tickets w ↦ rw w.store-is (
-          mixed_more (posted (setting ts)) _ _ _ _ row c.loop-row.invariant c.empty-row.ensures (posted_row ts _ _ row _ _ w.if-row-tickets.true w.fill-row.ensures)
+          mixed_more (posted (setting ts)) _ _ _ _ row c.loop-row.invariant c.empty_row.ensures (posted_row ts _ _ row _ _ w.if-row-tickets.true w.fill_row.ensures)
           )
       | else-row-tickets w ↦ rw w.store-is (
-          mixed_more (posted (setting ts)) _ _ _ _ row c.loop-row.invariant c.empty-row.ensures (posted_none ts _ row w.if-row-tickets.false)
+          mixed_more (posted (setting ts)) _ _ _ _ row c.loop-row.invariant c.empty_row.ensures (posted_none ts _ row w.if-row-tickets.false)
           )
     ]
 

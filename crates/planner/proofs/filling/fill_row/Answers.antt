@@ -6,7 +6,7 @@ use Rattle.planner.proofs.filling.fill_row.Goals as goal
 
 pub loop-start-preserved : goal.loop-start-preserved
 loop-start-preserved g c =
-    filled_more _ _ _ c.args.row c.args.first c.loop-start.start c.requires.0 (omega arith) (omega arith) c.loop-start.invariant c.put-back.ensures.left
+    filled_more _ _ _ c.args.row c.args.first c.loop-start.start c.requires.0 (omega arith) (omega arith) c.loop-start.invariant c.put_back.ensures.left
 
 pub returns : goal.returns
 returns g c =

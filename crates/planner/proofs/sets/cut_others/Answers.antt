@@ -24,6 +24,6 @@ loop-start-preserved g c =
 
 pub returns : goal.returns
 returns g c = record {
-  table = shed_fixed _ _ c.args.row c.args.stay c.loop-start.next c.in-default.ensures c.loop-start.invariant.0;
+  table = shed_fixed _ _ c.args.row c.args.stay c.loop-start.next c.in_default.ensures c.loop-start.invariant.0;
   out = c.loop-start.invariant.1;
 }

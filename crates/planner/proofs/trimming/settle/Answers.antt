@@ -12,12 +12,12 @@ loop-releases-init g c = let ts = posted c.args.collection.now in trim_none (set
 pub loop-releases-preserved : goal.loop-releases-preserved
 loop-releases-preserved g c =
     let ts = posted c.args.collection.now in
-    trim_trans (setting ts) (laws ts) c.args.ceiling _ _ _ _ _ _ c.loop-releases.invariant c.trim-round.ensures.trim
+    trim_trans (setting ts) (laws ts) c.args.ceiling _ _ _ _ _ _ c.loop-releases.invariant c.trim_round.ensures.trim
 
-pub returns-in-default : goal.returns-in-default
-returns-in-default g c =
+pub returns-in_default : goal.returns-in_default
+returns-in_default g c =
     let ts = posted c.args.collection.now in
-    let (i, l, none) = c.in-default.ensures in
+    let (i, l, none) = c.in_default.ensures in
     record {
       trim = c.loop-releases.invariant;
       done = narrowed_empty (setting ts) c.args.ceiling _ _ c.loop-releases.invariant.narrowed i l (λ t. none t (omega arith));
@@ -27,7 +27,7 @@ pub returns-in-Kept : goal.returns-in-Kept
 returns-in-Kept g c =
     let ts = posted c.args.collection.now in
     record {
-      trim = trim_trans (setting ts) (laws ts) c.args.ceiling _ _ _ _ _ _ c.loop-releases.invariant c.trim-round.ensures.trim;
+      trim = trim_trans (setting ts) (laws ts) c.args.ceiling _ _ _ _ _ _ c.loop-releases.invariant c.trim_round.ensures.trim;
       done = settled_largest (setting ts) (laws ts) c.args.ceiling _ _ _ c.loop-releases.invariant.narrowed c.in-Kept.ensures.done;
     }
 
@@ -35,6 +35,6 @@ pub returns-in-Emptied : goal.returns-in-Emptied
 returns-in-Emptied g c =
     let ts = posted c.args.collection.now in
     record {
-      trim = trim_trans (setting ts) (laws ts) c.args.ceiling _ _ _ _ _ _ c.loop-releases.invariant c.trim-round.ensures.trim;
+      trim = trim_trans (setting ts) (laws ts) c.args.ceiling _ _ _ _ _ _ c.loop-releases.invariant c.trim_round.ensures.trim;
       done = settled_none (setting ts) (laws ts) c.args.ceiling _ _ c.loop-releases.invariant.narrowed c.in-Emptied.ensures.done;
     }

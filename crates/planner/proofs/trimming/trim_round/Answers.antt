@@ -13,15 +13,15 @@ pub loop-row-preserved : goal.loop-row-preserved
 loop-row-preserved g c =
     let ts = posted c.args.collection.now in
     let r = release c.args.releases.now in
-    elim c.match-trim-row.branch [
+    elim c.match-trim_row.branch [
       | in-Kept x ↦ rw x.moved-is (
           round_kept (setting ts) (laws ts) c.args.ceiling r _ _ _ _ _ _ c.loop-row.row _ (omega (arith, ap length c.tickets-row-end.ensures)) c.requires.here
-          c.loop-row.invariant c.trim-row.ensures.trim c.trim-row.ensures.out x.in-Kept.ensures.least
+          c.loop-row.invariant c.trim_row.ensures.trim c.trim_row.ensures.out x.in-Kept.ensures.least
           )
       | in-Moved x ↦ rw x.moved-is (
           let (v, least, other) = x.in-Moved.ensures.least in
           round_moved (setting ts) (laws ts) c.args.ceiling r _ _ _ _ _ _ c.loop-row.row _ (omega (arith, ap length c.tickets-row-end.ensures)) c.requires.here
-          c.loop-row.invariant c.trim-row.ensures.trim c.trim-row.ensures.out v least other
+          c.loop-row.invariant c.trim_row.ensures.trim c.trim_row.ensures.out v least other
           )
     ]
 
@@ -31,7 +31,7 @@ returns-in-Emptied g c =
     let r = release c.args.releases.now in
     let (trim, none) =
     round_emptied (setting ts) (laws ts) c.args.ceiling r _ _ _ _ _ _ c.loop-row.row _ (omega (arith, ap length c.tickets-row-end.ensures)) c.requires.here
-    c.loop-row.invariant c.trim-row.ensures.trim c.trim-row.ensures.out c.in-Emptied.ensures.least in
+    c.loop-row.invariant c.trim_row.ensures.trim c.trim_row.ensures.out c.in-Emptied.ensures.least in
     record { trim = trim; done = none }
 
 pub returns-then-moved : goal.returns-then-moved

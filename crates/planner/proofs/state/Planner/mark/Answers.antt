@@ -6,8 +6,8 @@ use Rattle.planner.proofs.Marks.{state_same, marks_length, marks_opened}
 use Rattle.planner.proofs.Going.{goes_on}
 use Rattle.planner.proofs.state.Planner.mark.Goals as goal
 
-pub returns-then-depth-ge-MOST-LEVELS : goal.returns-then-depth-ge-MOST-LEVELS
-returns-then-depth-ge-MOST-LEVELS g c =
+pub returns-then-depth-ge-MOST_LEVELS : goal.returns-then-depth-ge-MOST_LEVELS
+returns-then-depth-ge-MOST_LEVELS g c =
     let R = g.S.Store.rows in
     let p = c.args.self.now in
     goes_on R p p _ _ refl (refuses (mark_15 (setting_of p) (state_of R p) (omega (arith, marks_length (R p.store) p.levels p.depth))) refl)

@@ -17,7 +17,7 @@ returns-then-cuts-tickets g c =
     let R = g.S.Store.rows in
     let p = c.args.self.now in
     let cuts = c.args.cuts.now in
-    let all = counted (setting_of p) (R p.store) _ _ (ap length c.tickets-tickets.ensures) c.count-starts-standing.ensures in
+    let all = counted (setting_of p) (R p.store) _ _ (ap length c.tickets-tickets.ensures) c.count_starts-standing.ensures in
     promised R p p cuts _ cuts refl
     (refuses (prune_17 (setting_of p) (state_of R p) (length cuts) (omega (arith, all, ap length c.tickets-tickets.ensures))) refl)
     refl
@@ -28,7 +28,7 @@ returns-then-not-settle g c =
     let p = c.args.self.now in
     let cuts = c.args.cuts.now in
     let w = setting_of p in
-    let all = counted w (R p.store) _ _ (ap length c.tickets-tickets.ensures) c.count-starts-standing.ensures in
+    let all = counted w (R p.store) _ _ (ap length c.tickets-tickets.ensures) c.count_starts-standing.ensures in
     let G = bit_rows c.empty-gone.result in
     let Q = R c.settle.new.store in
     let H = bit_rows c.settle.new.gone in
@@ -39,12 +39,12 @@ returns-then-not-settle g c =
     (state_same back refl (ap (λ (T : Rows). at_marks T p.levels p.depth) back) refl))
     refl
 
-pub list-cuts-requires : goal.list-cuts-requires
-list-cuts-requires g c =
+pub list_cuts-requires : goal.list_cuts-requires
+list_cuts-requires g c =
     let R = g.S.Store.rows in
     let p = c.args.self.now in
     let w = setting_of p in
-    let all = counted w (R p.store) _ _ (ap length c.tickets-tickets.ensures) c.count-starts-standing.ensures in
+    let all = counted w (R p.store) _ _ (ap length c.tickets-tickets.ensures) c.count_starts-standing.ensures in
     let G = bit_rows c.empty-gone.result in
     let Q = R c.settle.new.store in
     let H = bit_rows c.settle.new.gone in
@@ -60,17 +60,17 @@ returns g c =
     let p = c.args.self.now in
     let cuts = c.args.cuts.now in
     let w = setting_of p in
-    let all = counted w (R p.store) _ _ (ap length c.tickets-tickets.ensures) c.count-starts-standing.ensures in
+    let all = counted w (R p.store) _ _ (ap length c.tickets-tickets.ensures) c.count_starts-standing.ensures in
     let G = bit_rows c.empty-gone.result in
     let Q = R c.settle.new.store in
     let H = bit_rows c.settle.new.gone in
     let trim = c.settle.ensures.trim in
     let best = c.if-not-settle.ensures.done in
-    let many = counted w H _ _ (ap length c.tickets-tickets.ensures) c.list-cuts.ensures.many in
-    let words = subst (λ n. Words (rows_below H n) (256 * n) cuts c.list-cuts.new.cuts c.list-cuts.result) (ap length c.tickets-tickets.ensures) c.list-cuts.ensures.words in
+    let many = counted w H _ _ (ap length c.tickets-tickets.ensures) c.list_cuts.ensures.many in
+    let words = subst (λ n. Words (rows_below H n) (256 * n) cuts c.list_cuts.new.cuts c.list_cuts.result) (ap length c.tickets-tickets.ensures) c.list_cuts.ensures.words in
     promised R p _ cuts _ _ refl
     (takes
     (prune_free w (state_of R p) (length cuts) (omega (arith, all, ap length c.tickets-tickets.ensures)) (λ none. none Q best.itself best.within))
     (prunes Q best (omega (arith, many, cuts_many w p.ceiling (R p.store) G Q H c.empty-gone.ensures trim))
     (state_same refl refl (marks_kept _ _ _ _ _ _ _ c.empty-gone.ensures trim.out c.note.ensures) refl)))
-    (cuts_listed w p.ceiling (R p.store) G Q H c.empty-gone.ensures trim _ cuts c.list-cuts.new.cuts c.list-cuts.result words)
+    (cuts_listed w p.ceiling (R p.store) G Q H c.empty-gone.ensures trim _ cuts c.list_cuts.new.cuts c.list_cuts.result words)

@@ -10,15 +10,15 @@ use Rattle.planner.proofs.Taking.{newest_yes, newest_no}
 use Rattle.planner.proofs.Going.{goes_on}
 use Rattle.planner.proofs.state.Planner.undo.Goals as goal
 
-pub returns-then-not-is-newest : goal.returns-then-not-is-newest
-returns-then-not-is-newest g c =
+pub returns-then-not-is_newest : goal.returns-then-not-is_newest
+returns-then-not-is_newest g c =
     let R = g.S.Store.rows in
     let p = c.args.self.now in
     let many = marks_length (R p.store) p.levels p.depth in
     let stamp = c.args.token.stamp in
     let level = c.args.token.level in
     record {
-      moved = goes_on R p p _ _ refl (refuses (undo_16 (setting_of p) (state_of R p) stamp level (newest_no (state_of R p) stamp level p.depth many c.if-not-is-newest.ensures)) refl);
+      moved = goes_on R p p _ _ refl (refuses (undo_16 (setting_of p) (state_of R p) stamp level (newest_no (state_of R p) stamp level p.depth many c.if-not-is_newest.ensures)) refl);
       token = refl;
     }
 
@@ -29,7 +29,7 @@ returns g c =
     let many = marks_length (R p.store) p.levels p.depth in
     let stamp = c.args.token.stamp in
     let level = c.args.token.level in
-    let n : Newest (state_of R p) stamp level = newest_yes (state_of R p) stamp level p.depth many c.if-not-is-newest.ensures in
+    let n : Newest (state_of R p) stamp level = newest_yes (state_of R p) stamp level p.depth many c.if-not-is_newest.ensures in
     let top = n.top in
     let some = n.some in
     let k = level - 1 in
