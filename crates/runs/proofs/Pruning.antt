@@ -1,6 +1,8 @@
 -- A table that is cut down to the largest self-supporting one. Assumes nothing.
-use Rattle.std.proofs.Common.{◌≡◌, ℕ, ◌<◌, true, false, ⊎_elim}
+use Rattle.std.proofs.Common.{◌≡◌, ◌∙◌, ℕ, ◌<◌, true, false, ⊎_elim}
 use Rattle.std.proofs.lemmas.Bool.{both_ways, cases_Bool}
+use Rattle.stores.specs.Sets.{without}
+use Rattle.stores.specs.Moves.{without_held, without_other}
 use Rattle.runs.specs.Tables.{Table, Setting, Within, Releases, Early, SelfSupporting, Narrowed, NoneWithin, Largest}
 use Rattle.runs.proofs.Tables.{Laws, within_early, self_early}
 
@@ -22,6 +24,19 @@ narrowed_less w ok U S R r early less cut = record {
       (λ (h : R i t ≡ false). let (l, dear) = cut i t (in_s i t on) h in absurd (dear (self_early w ok self (within_early w in_s early) i t l on)))
       (cases_Bool (R i t));
 }
+
+-- a start that early releases do not support can be cut
+pub narrowed_cut :
+    (w : Setting) → Laws w → (U : ℕ) (S R : Table) → Narrowed w U S R → (r : ℕ → ℕ) (i t : ℕ) → Early w R r → i < w.tickets → (w.supports r i t U → ⊥) → Narrowed w U S (without R i t)
+narrowed_cut w ok U S R so_far r i t early l dear = record {
+  within = λ j u on. so_far.within j u (without_held R i t j u on);
+  keeps = λ T self in_s j u on.
+      let in_r = so_far.keeps T self in_s in
+      without_other R i t j u (λ e d. dear (self_early w ok self (within_early w in_r early) i t l (sym_two T i t j u e d ∙ on))) ∙ in_r j u on;
+}
+  where
+    sym_two : (T : Table) (i t j u : ℕ) → j ≡ i → u ≡ t → T i t ≡ T j u
+    sym_two T i t j u e d = rw (e, d)
 
 module _ (w : Setting) (U : ℕ) (S R : Table) (so_far : Narrowed w U S R) where
   -- where a ticket's row is left empty, no table supports itself
