@@ -1,11 +1,10 @@
 -- Gathering records one by one, and their judge. Assumes nothing.
-use Rattle.std.proofs.Common.{◌≡◌, ℕ, ◌<◌, List, [], ◌∷◌, ◌++◌, sym, refl, ap, ◌∙◌, subst, arith}
-use Rattle.tickets.specs.Refusals.{Answers, Clear}
-use Rattle.tickets.specs.Collections.{meaning}
+use Rattle.std.proofs.Common.{◌≡◌, ℕ, ◌<◌, List, [], ◌∷◌, ◌++◌, sym, refl, subst, arith}
+use Rattle.tickets.specs.Refusals.{Clear}
 use Rattle.tickets.specs.declared.refusal.TicketRefusal.{TicketRefusal}
 use Rattle.tickets.specs.declared.refusal.TicketRefusal.TheVariants.{OutsideLimits, TooManyTickets, CeilingTooHigh}
 use Rattle.ticket_file.specs.Format.{Rec, ban}
-use Rattle.day.specs.Judging.{Gathered, nothing, with_record, gather, judging, posting}
+use Rattle.day.specs.Judging.{Gathered, with_record, gather, judging, posting}
 
 -- a ban is always taken
 pub ban_taken : (g h : Gathered) (r : Rec) (i s : ℕ) → r ≡ ban i s → h ≡ record { held = g.held; bans = g.bans ++ (i, s) ∷ [] } → Clear (judging g) r × (h ≡ with_record g r)

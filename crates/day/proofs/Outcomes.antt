@@ -1,5 +1,5 @@
 -- What a file comes to, from its reading and the judging of its records. Assumes nothing.
-use Rattle.std.proofs.Common.{◌≡◌, ℕ, ◌+◌, ◌<◌, ◌≤◌, ◌⊎◌, List, [], ◌∷◌, ◌++◌, map, length, get_or, take, drop, Some, None, Ok, Err, vec_items, string_bytes, Option, Result, sym, refl, ap, ◌∙◌, subst, inl, inr, ⊎_elim, arith, length-append, take-append-drop}
+use Rattle.std.proofs.Common.{◌≡◌, ℕ, ◌+◌, ◌<◌, ◌≤◌, List, [], ◌∷◌, ◌++◌, map, length, get_or, take, drop, Some, None, Ok, Err, vec_items, string_bytes, Option, Result, sym, ap, ◌∙◌, subst, inl, inr, ⊎_elim, arith, length-append, take-append-drop}
 use lib.ListN.{length-map}
 use Rattle.std.specs.List.{flat_map}
 use Rattle.std.proofs.lemmas.List.{take_more, drop_more, get_or-map, take_all}
@@ -9,9 +9,9 @@ use Rattle.ticket_file.specs.declared.refusal.FileFault.{FileFault}
 use Rattle.ticket_file.specs.declared.record.Placed.{Placed}
 use Rattle.ticket_file.specs.declared.record.Record.TheVariants.{Ticket as TicketRecord}
 use Rattle.ticket_file.specs.declared.stage.Reading.{Reading}
-use Rattle.ticket_file.specs.Format.{Rec, bytes, file_of, Holds}
-use Rattle.ticket_file.specs.Faults.{no_judge, Taken, Upto, Reason, form, contents, Faulty}
-use Rattle.ticket_file.specs.Readings.{plain, spots, seen, Ends, Read}
+use Rattle.ticket_file.specs.Format.{Rec, bytes, file_of}
+use Rattle.ticket_file.specs.Faults.{no_judge, Taken, Upto, form, contents, Faulty}
+use Rattle.ticket_file.specs.Readings.{plain, seen, Ends, Read}
 use Rattle.ticket_file.proofs.Unique.{injective}
 use Rattle.ticket_file.proofs.Verdicts.{whole_upto, refuses_contents, held_is_well, one_fault}
 use Rattle.ticket_file.proofs.Judged.{takes_more, leads_up, stands, comes, judged, form_fault, handed_all, handed_at}

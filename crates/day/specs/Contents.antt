@@ -1,5 +1,5 @@
 -- The contents of a file as they are gathered. Assumes nothing.
-use Rattle.std.specs.Prelude.{◌≡◌, ℕ, List, map, Ok, Err, vec_items, Result}
+use Rattle.std.specs.Prelude.{◌≡◌, ℕ, map, Ok, Err, vec_items, Result}
 use Rattle.std.specs.declared.alloc.AllocError.{AllocError}
 use Rattle.tickets.specs.Refusals.{Answers, Clear}
 use Rattle.tickets.specs.Collections.{held}

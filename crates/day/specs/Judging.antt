@@ -1,7 +1,7 @@
 -- What the records of a file come to, and how their contents are judged. Assumes nothing.
 use Rattle.std.specs.Prelude.{ℕ, List, [], ◌∷◌, ◌++◌}
 use Rattle.tickets.specs.Refusals.{Meaning}
-use Rattle.tickets.specs.Collections.{Held, no_tickets, with_ticket, with_ceiling, Asked, post, set_ceiling, meaning}
+use Rattle.tickets.specs.Collections.{Held, no_tickets, with_ticket, with_ceiling, post, set_ceiling, meaning}
 use Rattle.tickets.specs.declared.refusal.TicketRefusal.{TicketRefusal}
 use Rattle.ticket_file.specs.Format.{Rec, ticket, ceiling, ban}
 use Rattle.ticket_file.specs.Faults.{Judge, Reason, form, contents}

@@ -1,5 +1,5 @@
 -- What the report on a file is. Assumes nothing.
-use Rattle.std.specs.Prelude.{◌≡◌, ℕ, ◌⊎◌, List, Some, None, Ok, Err, string_bytes, Option, Result}
+use Rattle.std.specs.Prelude.{◌≡◌, ℕ, ◌⊎◌, List, Some, None, Ok, Err, string_bytes, Result}
 use Rattle.tickets.specs.declared.refusal.TicketRefusal.{TicketRefusal}
 use Rattle.ticket_file.specs.Format.{Rec, Holds}
 use Rattle.ticket_file.specs.Faults.{Taken, Reason, Faulty}

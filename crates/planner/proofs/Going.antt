@@ -1,12 +1,11 @@
 -- How every history goes on with a call. Assumes nothing.
-use Rattle.std.proofs.Common.{◌≡◌, ℕ, sym, refl, ap, subst}
+use Rattle.std.proofs.Common.{◌≡◌, ℕ, sym, subst}
 use Rattle.tickets.specs.Collections.{posted}
 use Rattle.tickets.specs.declared.collection.Collection.{Collection}
 use Rattle.stores.specs.Sets.{Rows}
-use Rattle.runs.specs.Tables.{Setting}
 use Rattle.runs.specs.Supports.{setting}
-use Rattle.runs.specs.Planner.{State, sealed, Means}
-use Rattle.runs.specs.Whole.{History, just_sealed, longer, Reached, told}
+use Rattle.runs.specs.Planner.{sealed, Means}
+use Rattle.runs.specs.Whole.{just_sealed, longer, Reached}
 use Rattle.runs.specs.declared.call.Call.{Call}
 use Rattle.runs.specs.declared.call.Answer.{Answer}
 use Rattle.runs.proofs.Runs.{every_run}

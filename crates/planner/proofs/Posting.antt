@@ -1,10 +1,10 @@
 -- The posted rows, as a store is filled with them. Assumes nothing.
-use Rattle.std.proofs.Common.{◌≡◌, ℕ, ◌<◌, ◌≤◌, Bool, false, ◌&&◌, ◌||◌, eqb, leb, List, length, get_or, ap, ◌∙◌, arith}
+use Rattle.std.proofs.Common.{◌≡◌, ℕ, ◌<◌, ◌≤◌, false, ◌&&◌, ◌||◌, eqb, List, length, get_or, ap, ◌∙◌, arith}
 use Rattle.std.proofs.lemmas.List.{get_or_default}
 use Rattle.std.proofs.lemmas.Bool.{and_left, le-ltb, lt-ltb}
 use Rattle.std.proofs.lemmas.Bool.Decides.{nat_tests}
 use Rattle.tickets.specs.declared.ticket.Ticket.{Ticket}
-use Rattle.spreads.specs.Spreads.{blank, ticket}
+use Rattle.spreads.specs.Spreads.{blank}
 use Rattle.stores.specs.Sets.{Rows}
 use Rattle.runs.specs.Tables.{posted}
 use Rattle.runs.specs.Supports.{setting}

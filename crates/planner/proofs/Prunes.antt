@@ -1,14 +1,13 @@
 -- What a prune comes to. Assumes nothing.
-use Rattle.std.proofs.Common.{◌≡◌, ℕ, ◌+◌, ◌-◌, ◌*◌, ◌<◌, ◌≤◌, true, false, not, ◌&&◌, ◌⊎◌, List, length, get_or, Result, sym, refl, ap, ◌∙◌, subst, inl, inr, ⊎_elim, arith}
+use Rattle.std.proofs.Common.{◌≡◌, ℕ, ◌+◌, ◌-◌, ◌<◌, ◌≤◌, true, false, List, length, Result, sym, ap, ◌∙◌, ⊎_elim, arith}
 use mathlib.Core.Path.{fun_ext}
-use Rattle.std.proofs.lemmas.Bool.{cases_lt, and_parts}
+use Rattle.std.proofs.lemmas.Bool.{cases_lt}
 use Rattle.std.proofs.lemmas.Bool.Decides.{nat_tests}
 use Rattle.tickets.specs.Collections.{posted}
-use Rattle.tickets.specs.declared.collection.Collection.{Collection}
 use Rattle.tickets.specs.declared.planner_refusal.PlannerRefusal.{PlannerRefusal}
 use Rattle.spreads.specs.Lines.{sum_to}
 use Rattle.stores.specs.Sets.{Rows, Bounded, no_starts, size_of}
-use Rattle.runs.specs.Tables.{Setting, Full, starts, Largest}
+use Rattle.runs.specs.Tables.{Setting, Full, starts}
 use Rattle.runs.specs.Planner.{Means}
 use Rattle.runs.specs.declared.call.Call.TheVariants.{Prune}
 use Rattle.runs.proofs.Starts.{starts_split, starts_full}

@@ -1,5 +1,5 @@
 -- Sets of starts, row by row. Assumes nothing.
-use Rattle.std.specs.Prelude.{◌≡◌, ℕ, ◌≤◌, Bool, true, not, ◌&&◌, ◌||◌, ◌==◌, nat_le}
+use Rattle.std.specs.Prelude.{◌≡◌, ℕ, true, not, ◌&&◌, ◌||◌, ◌==◌, nat_le}
 use Rattle.stores.specs.Sets.{Rows}
 
 -- what R or G holds

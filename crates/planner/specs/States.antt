@@ -1,5 +1,5 @@
 -- A planner's state, as the theory of runs has it, and what its calls answered. Assumes nothing.
-use Rattle.std.specs.Prelude.{◌≡◌, ℕ, Ok, Err, Result}
+use Rattle.std.specs.Prelude.{◌≡◌, Ok, Err, Result}
 use Rattle.tickets.specs.Collections.{posted}
 use Rattle.tickets.specs.declared.planner_refusal.PlannerRefusal.{PlannerRefusal}
 use Rattle.stores.specs.Sets.{Rows}
@@ -7,7 +7,7 @@ use Rattle.runs.specs.Tables.{Setting}
 use Rattle.runs.specs.Supports.{setting}
 use Rattle.runs.specs.Planner.{State}
 use Rattle.runs.specs.declared.call.Answer.{Answer}
-use Rattle.runs.specs.declared.call.Answer.TheVariants.{Done, Marked, Cut, Refused}
+use Rattle.runs.specs.declared.call.Answer.TheVariants.{Done, Marked, Refused}
 use Rattle.planner.specs.declared.state.Planner.{Planner}
 use Rattle.planner.specs.declared.token.Token.{Token}
 use Rattle.planner.specs.declared.token.TokenRefused.{TokenRefused}

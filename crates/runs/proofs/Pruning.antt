@@ -3,7 +3,7 @@ use Rattle.std.proofs.Common.{◌≡◌, ◌∙◌, ℕ, ◌<◌, true, false, �
 use Rattle.std.proofs.lemmas.Bool.{both_ways, cases_Bool}
 use Rattle.stores.specs.Sets.{without}
 use Rattle.stores.specs.Moves.{without_held, without_other}
-use Rattle.runs.specs.Tables.{Table, Setting, Within, Releases, Early, SelfSupporting, Narrowed, NoneWithin, Largest}
+use Rattle.runs.specs.Tables.{Table, Setting, Within, Releases, Early, Narrowed, NoneWithin, Largest}
 use Rattle.runs.proofs.Tables.{Laws, within_early, self_early}
 
 pub narrowed_none : (w : Setting) (U : ℕ) (S : Table) → Narrowed w U S S

@@ -1,5 +1,5 @@
 -- The starts that tickets and a ceiling support, the plans that they afford, and the laws of both. Assumes nothing.
-use Rattle.std.specs.Prelude.{◌≡◌, ℕ, ◌*◌, ◌<◌, ◌≤◌, ◌↔◌, List, length, ◌≢◌}
+use Rattle.std.specs.Prelude.{ℕ, ◌*◌, ◌<◌, ◌≤◌, ◌↔◌, List, length, ◌≢◌}
 use Rattle.tickets.specs.declared.ticket.Ticket.{Ticket}
 use Rattle.spreads.specs.Lines.{Slot}
 use Rattle.spreads.specs.Spreads.{ticket, price, release}

@@ -1,5 +1,5 @@
 -- Prices do not fall when releases rise. Assumes nothing.
-use Rattle.std.specs.Prelude.{◌≡◌, ℕ, ◌<◌, ◌≤◌, List, length, ◌≢◌}
+use Rattle.std.specs.Prelude.{ℕ, ◌<◌, ◌≤◌, List, length, ◌≢◌}
 use Rattle.tickets.specs.declared.ticket.Ticket.{Ticket}
 use Rattle.spreads.specs.Spreads.{release, LeastPrice}
 use Rattle.spreads.specs.Pinned.{LeastPinned}

@@ -1,17 +1,16 @@
 -- What a judge of contents makes of the records that were read. Assumes nothing.
-use Rattle.std.proofs.Common.{◌≡◌, ℕ, zero, suc, ◌+◌, ◌<◌, ◌≤◌, ◌⊎◌, List, [], ◌∷◌, ◌++◌, map, length, get_or, take, drop, sym, refl, ap, ◌∙◌, subst, inl, inr, ⊎_elim, append_assoc, arith, length-append}
-use mathlib.Core.List.{map-append}
-use Rattle.std.specs.List.{flat_map, AllByRecursion as All}
+use Rattle.std.proofs.Common.{◌≡◌, ℕ, zero, suc, ◌+◌, ◌<◌, ◌⊎◌, List, [], ◌∷◌, ◌++◌, map, length, get_or, take, drop, sym, refl, ap, ◌∙◌, subst, inl, inr, ⊎_elim, append_assoc, arith, length-append}
+use Rattle.std.specs.List.{flat_map}
 use Rattle.std.proofs.lemmas.List.{take_at, drop_at, length-take-le}
-use Rattle.tickets.specs.Refusals.{Clear, Answers}
+use Rattle.tickets.specs.Refusals.{Clear}
 use Rattle.ticket_file.specs.declared.refusal.FileRefusal.{FileRefusal}
 use Rattle.ticket_file.specs.declared.refusal.FileRefusal.TheVariants.{TooLong, NotATicketFile, OtherVersion, PastEnd, UnknownKind, BodyLength, OutOfOrder}
 use Rattle.ticket_file.specs.declared.record.Placed.{Placed}
-use Rattle.ticket_file.specs.Format.{Rec, ticket, ceiling, ban, kind, bytes, Fit, header, file_of, Begins, kinds}
+use Rattle.ticket_file.specs.Format.{Rec, ticket, ceiling, ban, kind, bytes, header, file_of, Begins, kinds}
 use Rattle.ticket_file.specs.Faults.{Judge, no_judge, Taken, Upto, Lies, PassesEnd, Unknown, Misfit, Disordered, After, Reason, form, contents, fault, Faulty}
-use Rattle.ticket_file.specs.Readings.{plain, Spot, spot, spots, seen}
+use Rattle.ticket_file.specs.Readings.{plain, spot, spots, seen}
 use Rattle.ticket_file.proofs.Unique.{injective}
-use Rattle.ticket_file.proofs.Verdicts.{parts, all_mid, all_front, begins_mid, begins_front, form_low, refuses_contents}
+use Rattle.ticket_file.proofs.Verdicts.{parts, all_mid, all_front, begins_mid, begins_front, form_low}
 
 -- one more at the end: what stands in the list stands before it, or is it
 split_last : (xs before after : List Rec) (x y : Rec) → xs ++ x ∷ [] ≡ before ++ y ∷ after → ((more : List Rec) × (xs ≡ before ++ y ∷ more)) ⊎ ((before ≡ xs) × (y ≡ x))

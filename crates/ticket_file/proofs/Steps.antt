@@ -1,7 +1,6 @@
 -- One step of reading: the next record, the end, or the fault. Assumes nothing.
-use Rattle.std.proofs.Common.{◌≡◌, ℕ, ◌+◌, ◌-◌, ◌<◌, ◌≤◌, ◌⊎◌, List, [], ◌∷◌, ◌++◌, length, get_or, take, drop, Option, sym, refl, ap, ◌∙◌, subst, inl, inr, ⊎_elim, append_assoc, append-nil, arith, length-append, length-drop, take-add}
+use Rattle.std.proofs.Common.{◌≡◌, ℕ, ◌+◌, ◌-◌, ◌<◌, ◌≤◌, List, [], ◌∷◌, ◌++◌, length, get_or, take, drop, Option, sym, refl, ap, ◌∙◌, subst, inl, inr, arith, length-append, length-drop, take-add}
 use mathlib.Core.List.{map-append}
-use Rattle.std.specs.List.{flat_map, AllByRecursion as All}
 use Rattle.std.proofs.lemmas.List.{flat_map_more, get_or-drop, take_all, take_at, take_rest}
 use Rattle.std.proofs.ByRecursion.{All-push}
 use Rattle.ticket_file.specs.declared.refusal.FileRefusal.{FileRefusal}
@@ -10,7 +9,7 @@ use Rattle.ticket_file.specs.declared.stage.Stage.{Stage}
 use Rattle.ticket_file.specs.declared.stage.Stage.TheVariants.{Tickets, Bans}
 use Rattle.ticket_file.specs.declared.record.Record.{Record}
 use Rattle.ticket_file.specs.declared.record.Record.TheVariants.{Ticket, Ceiling, Ban}
-use Rattle.ticket_file.specs.Format.{Rec, ceiling, ban, kind, body, bytes, Fit, header, file_of, Begins, kinds, Holds}
+use Rattle.ticket_file.specs.Format.{Rec, ceiling, ban, kind, bytes, Fit, header, file_of, Begins, kinds, Holds}
 use Rattle.ticket_file.specs.Faults.{no_judge, Upto, Lies, PassesEnd, Unknown, Misfit, Reason, form, contents, fault, Faulty}
 use Rattle.ticket_file.specs.Readings.{plain, Spot, spot, Decoded, Undecoded, Follows, Sofar}
 use Rattle.ticket_file.proofs.Orders.{follows_begin, unended}

@@ -1,9 +1,9 @@
 -- The bytes of records tell the records. Assumes nothing.
-use Rattle.std.proofs.Common.{◌≡◌, ℕ, ◌+◌, ◌/◌, ◌%◌, ◌<◌, ◌≤◌, ◌⊎◌, List, [], ◌∷◌, ◌++◌, length, sym, refl, ap, ◌∙◌, inl, inr, ⊎_elim, append_assoc, arith}
+use Rattle.std.proofs.Common.{◌≡◌, ℕ, ◌+◌, ◌/◌, ◌%◌, ◌⊎◌, List, [], ◌∷◌, ◌++◌, length, sym, refl, ap, ◌∙◌, inl, inr, ⊎_elim, append_assoc, arith}
 use Rattle.std.specs.List.{flat_map}
 use Rattle.std.proofs.lemmas.List.{append_cancel_left}
 use Rattle.tickets.specs.declared.terms.Terms.{Terms}
-use Rattle.ticket_file.specs.Format.{Rec, ticket, ceiling, ban, kind, bytes, header, file_of, Injective}
+use Rattle.ticket_file.specs.Format.{Rec, ticket, ceiling, ban, bytes, header, file_of, Injective}
 
 -- equal lists, cut at the same place
 cut_alike : {X : Type 0} (a b x y : List X) → length a ≡ length b → a ++ x ≡ b ++ y → (a ≡ b) × (x ≡ y)

@@ -4,7 +4,7 @@ use mathlib.Core.List.{map-append}
 use Rattle.std.specs.List.{flat_map, AllByRecursion as All}
 use Rattle.std.proofs.lemmas.List.{append_cancel_left, get_or-drop, take_all, drop_all, length-take-le}
 use Rattle.std.proofs.lemmas.Bool.{cases_order}
-use Rattle.tickets.specs.Refusals.{Clear, Answers}
+use Rattle.tickets.specs.Refusals.{Answers}
 use Rattle.ticket_file.specs.declared.refusal.FileRefusal.{FileRefusal}
 use Rattle.ticket_file.specs.declared.refusal.FileRefusal.TheVariants.{TooLong, NotATicketFile, OtherVersion, PastEnd, UnknownKind, BodyLength, OutOfOrder}
 use Rattle.ticket_file.specs.Format.{Rec, kind, body, bytes, Fit, header, file_of, Whole, Begins, kinds, Holds}

@@ -1,5 +1,5 @@
 -- Reading a whole file. Assumes nothing.
-use Rattle.std.proofs.Common.{◌≡◌, ℕ, ◌+◌, ◌-◌, ◌<◌, ◌≤◌, ◌⊎◌, List, [], ◌∷◌, ◌++◌, map, length, Some, None, vec_items, Option, sym, refl, ap, ◌∙◌, subst, inl, inr, append_assoc, arith, length-append}
+use Rattle.std.proofs.Common.{◌≡◌, ℕ, ◌+◌, ◌-◌, ◌<◌, ◌≤◌, ◌⊎◌, List, [], ◌∷◌, ◌++◌, map, length, Some, None, vec_items, sym, ap, ◌∙◌, subst, arith, length-append}
 use mathlib.Core.List.{map-append}
 use Rattle.std.specs.List.{flat_map}
 use Rattle.ticket_file.specs.declared.refusal.FileRefusal.{FileRefusal}
@@ -10,7 +10,7 @@ use Rattle.ticket_file.specs.declared.stage.Stage.TheVariants.{Tickets}
 use Rattle.ticket_file.specs.declared.stage.Reading.{Reading}
 use Rattle.ticket_file.specs.Format.{Rec, bytes, header, file_of, Holds}
 use Rattle.ticket_file.specs.Faults.{no_judge, Taken, Upto, Reason, form, Faulty}
-use Rattle.ticket_file.specs.Readings.{plain, Spot, spot, spots, seen, Ends, Read, Sofar}
+use Rattle.ticket_file.specs.Readings.{plain, spot, spots, seen, Ends, Read, Sofar}
 use Rattle.ticket_file.proofs.Unique.{injective}
 use Rattle.ticket_file.proofs.Steps.{no_numbers, opened}
 use Rattle.ticket_file.proofs.Verdicts.{place_is, held_is_well, one_fault}

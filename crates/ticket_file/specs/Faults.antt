@@ -4,7 +4,7 @@ use Rattle.std.specs.List.{AllByRecursion as All}
 use Rattle.tickets.specs.Refusals.{Meaning, Clear}
 use Rattle.ticket_file.specs.declared.refusal.FileRefusal.{FileRefusal}
 use Rattle.ticket_file.specs.declared.refusal.FileRefusal.TheVariants.{TooLong, NotATicketFile, OtherVersion, PastEnd, UnknownKind, BodyLength, OutOfOrder}
-use Rattle.ticket_file.specs.Format.{Rec, kind, bytes, Fit, header, file_of, Whole, Begins, kinds}
+use Rattle.ticket_file.specs.Format.{Rec, kind, bytes, Fit, file_of, Whole, Begins, kinds}
 
 -- a judge of contents: for each of its refusals the number, and which records it refuses after which others
 abbrev pub Judge : Type 0 → Type 1

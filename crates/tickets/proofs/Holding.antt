@@ -1,5 +1,5 @@
 -- What posting refuses, and what it adds. Assumes nothing.
-use Rattle.std.proofs.Common.{◌≡◌, ℕ, ◌+◌, ◌<◌, ◌≤◌, List, [], ◌∷◌, ◌++◌, map, length, take, set, sym, refl, ap, ◌∙◌, add-one, arith, length-take, take-suc-set}
+use Rattle.std.proofs.Common.{◌≡◌, ℕ, ◌+◌, ◌<◌, ◌≤◌, List, [], ◌∷◌, ◌++◌, map, length, take, set, ap, ◌∙◌, add-one, arith, length-take, take-suc-set}
 use mathlib.Core.List.{map-append}
 use Rattle.std.proofs.lemmas.List.{length-map}
 use Rattle.tickets.specs.declared.terms.Terms.{Terms}
@@ -7,7 +7,7 @@ use Rattle.tickets.specs.declared.ticket.Ticket.{Ticket}
 use Rattle.tickets.specs.declared.refusal.TicketRefusal.{TicketRefusal}
 use Rattle.tickets.specs.declared.refusal.TicketRefusal.TheVariants.{OutsideLimits, TooManyTickets, CeilingTooHigh}
 use Rattle.tickets.specs.Refusals.{Answers, Clear}
-use Rattle.tickets.specs.Collections.{Fair, Held, Asked, post, meaning, terms_of}
+use Rattle.tickets.specs.Collections.{Fair, Held, post, meaning, terms_of}
 
 -- a ticket within the limits finds no room
 pub full : (h : Held) (t : Terms) → Fair t → 24 ≤ length h.tickets → Answers meaning (post h t) TooManyTickets

@@ -1,4 +1,4 @@
-use Rattle.std.proofs.Common.{◌≡◌, refl, subst}
+use Rattle.std.proofs.Common.{refl, subst}
 use Rattle.day.specs.Reports.{Outcome}
 use Rattle.day.proofs.Outcomes.{reports_listing, reports_fault}
 use Rattle.day.proofs.report.report_on.Goals as goal

@@ -1,4 +1,4 @@
-use Rattle.std.proofs.Common.{◌≡◌, string_bytes, refl, ◌∙◌}
+use Rattle.std.proofs.Common.{string_bytes, refl, ◌∙◌}
 use Rattle.std.proofs.lemmas.Slice.{pushed}
 use Rattle.day.proofs.Lines.{one_ban, all_bans}
 use Rattle.day.proofs.text.push_bans.Goals as goal

@@ -1,4 +1,4 @@
-use Rattle.std.proofs.Common.{◌≡◌, string_bytes, refl, ap, ◌∙◌}
+use Rattle.std.proofs.Common.{string_bytes, refl, ap, ◌∙◌}
 use Rattle.std.proofs.lemmas.Slice.{pushed}
 use Rattle.tickets.specs.Collections.{terms_of}
 use Rattle.day.specs.Texts.{row_line}

@@ -1,4 +1,4 @@
-use Rattle.std.proofs.Common.{refl, ◌∙◌, arith, length-set, rules}
+use Rattle.std.proofs.Common.{refl, ◌∙◌, length-set, rules}
 use Rattle.listing.proofs.Spelling.{spelt_none, spelt_on, spelt_more, spelt_all}
 use Rattle.listing.proofs.numbers.digits.Goals as goal
 

@@ -1,4 +1,3 @@
-use Rattle.std.proofs.Common.{arith}
 use Rattle.listing.proofs.Tables.{lining_none, lining_room, lining_more, lining_all}
 use Rattle.listing.proofs.row_lines.place_rows.Goals as goal
 

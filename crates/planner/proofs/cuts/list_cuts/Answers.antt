@@ -1,8 +1,7 @@
-use Rattle.std.proofs.Common.{◌≡◌, ℕ, ◌*◌, sym, refl, ap, ◌∙◌, subst, arith}
+use Rattle.std.proofs.Common.{◌≡◌, ◌*◌, refl, ap, ◌∙◌, subst, arith}
 use Rattle.spreads.specs.Lines.{sum_to}
 use Rattle.stores.specs.Sets.{size_of}
 use Rattle.stores.specs.BitRows.{bit_rows}
-use Rattle.planner.specs.Sets.{union, only_row}
 use Rattle.planner.specs.Words.{rows_below, Words}
 use Rattle.planner.proofs.Listing.{words_none, words_up, sum_step, sizes_within, below_step}
 use Rattle.planner.proofs.cuts.list_cuts.Goals as goal

@@ -1,4 +1,4 @@
-use Rattle.std.proofs.Common.{false, refl, arith}
+use Rattle.std.proofs.Common.{false, refl}
 use Rattle.planner.proofs.Walks.{shed_none, shed_cut, shed_empty}
 use Rattle.planner.proofs.filling.empty_row.Goals as goal
 

@@ -1,7 +1,7 @@
 use Rattle.std.proofs.Common.{◌∙◌, arith}
 use Rattle.runs.specs.Tables.{posted}
 use Rattle.runs.specs.Supports.{setting}
-use Rattle.planner.proofs.Walks.{mixed_none, mixed_more, mixed_all}
+use Rattle.planner.proofs.Walks.{mixed_more, mixed_all}
 use Rattle.planner.proofs.Posting.{posted_past, posted_row, posted_none}
 use Rattle.planner.proofs.filling.fill.Goals as goal
 use Rattle.planner.proofs.filling.fill.Goals.{then-row-tickets, else-row-tickets}

@@ -1,4 +1,4 @@
-use Rattle.std.proofs.Common.{eqb, refl, arith}
+use Rattle.std.proofs.Common.{eqb}
 use Rattle.std.proofs.lemmas.Bool.{eq-eqb, ne_eqb}
 use Rattle.planner.proofs.Walks.{shed_none, shed_stay, shed_cut, shed_fixed, out_none, out_trans}
 use Rattle.planner.proofs.sets.cut_others.Goals as goal

@@ -1,4 +1,4 @@
-use Rattle.std.proofs.Common.{◌∙◌, arith}
+use Rattle.std.proofs.Common.{◌∙◌}
 use Rattle.planner.proofs.Walks.{upto_none, upto_more, upto_done}
 use Rattle.planner.proofs.sets.pour_row.Goals as goal
 

@@ -1,5 +1,4 @@
-use Rattle.std.proofs.Common.{◌≡◌, Bool, true, false, List, length, ap, subst, arith}
-use Rattle.tickets.specs.declared.ticket.Ticket.{Ticket}
+use Rattle.std.proofs.Common.{Bool, true, false, length, ap, subst, arith}
 use Rattle.tickets.specs.Collections.{posted}
 use Rattle.spreads.specs.Spreads.{release}
 use Rattle.stores.specs.BitRows.{bit_rows}

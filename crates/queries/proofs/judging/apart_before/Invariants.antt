@@ -1,6 +1,6 @@
 use Rattle.std.proofs.Common.{ℕ, ◌<◌}
 use Rattle.spreads.specs.Plans.{Overlap}
-use Rattle.queries.specs.Judging.{starts, ApartBefore}
+use Rattle.queries.specs.Judging.{starts}
 use Rattle.queries.proofs.judging.apart_before.Given as goal
 
 abbrev pub invariant-loop-j : goal.invariant-loop-j

@@ -1,4 +1,4 @@
-use Rattle.std.proofs.Common.{◌≡◌, ◌<◌, ◌≤◌, [], length, sym, refl, inl, inr, rules}
+use Rattle.std.proofs.Common.{◌≡◌, ◌≤◌, [], length, refl, inl, inr, rules}
 use Rattle.ticket_file.specs.Format.{ticket, ceiling, ban}
 use Rattle.ticket_file.proofs.Fronts.{ticket_is, ceiling_is, ban_is, no_ticket, no_ceiling, no_ban}
 use Rattle.ticket_file.proofs.reading.decode.Goals as goal

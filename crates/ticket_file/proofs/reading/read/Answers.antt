@@ -1,9 +1,9 @@
-use Rattle.std.proofs.Common.{◌≡◌, [], ◌∷◌, ◌++◌, map, length, sym, refl, ap, ◌∙◌, inl, inr, arith}
+use Rattle.std.proofs.Common.{[], ◌∷◌, map, refl, ap, inl, inr}
 use Rattle.std.proofs.lemmas.Slice.{pushed}
 use Rattle.ticket_file.specs.Readings.{seen}
 use Rattle.ticket_file.proofs.Unique.{injective}
-use Rattle.ticket_file.proofs.Steps.{upto, opened, unfinished, finished}
-use Rattle.ticket_file.proofs.Whole.{Handed, more, complete, faulted, started}
+use Rattle.ticket_file.proofs.Steps.{upto, unfinished, finished}
+use Rattle.ticket_file.proofs.Whole.{more, complete, faulted, started}
 use Rattle.ticket_file.proofs.reading.read.Goals as goal
 use Rattle.ticket_file.proofs.reading.read.Goals.{in-Tickets, in-Bans}
 

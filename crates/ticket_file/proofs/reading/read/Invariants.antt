@@ -1,4 +1,4 @@
-use Rattle.std.proofs.Common.{◌-◌, ◌≤◌, length, vec_items}
+use Rattle.std.proofs.Common.{◌-◌, length, vec_items}
 use Rattle.ticket_file.proofs.Whole.{Handed}
 use Rattle.ticket_file.proofs.reading.read.Given as goal
 

@@ -1,7 +1,7 @@
-use Rattle.std.proofs.Common.{◌≡◌, ◌∷◌, ◌++◌, length, sym, refl, ap, ◌∙◌, arith}
+use Rattle.std.proofs.Common.{length, refl, ap, arith}
 use Rattle.std.proofs.lemmas.Result.{err_from_is_err_and}
-use Rattle.ticket_file.specs.Readings.{plain, Spot}
-use Rattle.ticket_file.proofs.Steps.{framed, lies, hands, room_at, past_end, undecoded, disordered, spot_is}
+use Rattle.ticket_file.specs.Readings.{plain}
+use Rattle.ticket_file.proofs.Steps.{framed, lies, hands, past_end, undecoded, disordered, spot_is}
 use Rattle.ticket_file.proofs.reading.record_at.Goals as goal
 
 pub returns-in_err-kind : goal.returns-in_err-kind

@@ -1,4 +1,4 @@
-use Rattle.std.proofs.Common.{◌≡◌, [], ◌∷◌, ◌++◌, map, vec_items, sym, refl, ap, ◌∙◌}
+use Rattle.std.proofs.Common.{[], ◌∷◌, map, vec_items, refl, ap, ◌∙◌}
 use mathlib.Core.List.{map-append}
 use Rattle.std.proofs.lemmas.Slice.{pushed}
 use Rattle.ticket_file.specs.Readings.{plain}

@@ -1,4 +1,4 @@
-use Rattle.std.proofs.Common.{◌≡◌, length, sym, refl, ap, arith}
+use Rattle.std.proofs.Common.{length, sym, refl, ap, arith}
 use Rattle.runs.specs.Planner.{bans, takes, refuses}
 use Rattle.runs.proofs.Refusals.{ban_11, ban_12, ban_13, ban_free}
 use Rattle.planner.specs.States.{setting_of, state_of}

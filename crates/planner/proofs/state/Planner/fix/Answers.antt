@@ -1,4 +1,4 @@
-use Rattle.std.proofs.Common.{◌≡◌, length, sym, refl, ap, arith}
+use Rattle.std.proofs.Common.{length, sym, refl, ap, arith}
 use Rattle.runs.specs.Planner.{fixes, takes, refuses}
 use Rattle.runs.proofs.Refusals.{fix_11, fix_12, fix_free}
 use Rattle.planner.specs.States.{setting_of, state_of}

@@ -1,4 +1,4 @@
-use Rattle.std.proofs.Common.{◌≡◌, ◌-◌, refl, arith}
+use Rattle.std.proofs.Common.{◌-◌, refl, arith}
 use Rattle.runs.specs.Planner.{Newest, keeps, takes, refuses}
 use Rattle.runs.proofs.Refusals.{keep_16, keep_free}
 use Rattle.planner.specs.Sets.{union}

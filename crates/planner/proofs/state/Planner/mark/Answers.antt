@@ -1,4 +1,4 @@
-use Rattle.std.proofs.Common.{◌≡◌, ◌+◌, sym, refl, ap, ◌∙◌, arith}
+use Rattle.std.proofs.Common.{◌+◌, sym, refl, ap, arith}
 use Rattle.runs.specs.Planner.{marks, takes, refuses}
 use Rattle.runs.proofs.Refusals.{mark_15, mark_free}
 use Rattle.planner.specs.States.{setting_of, state_of}

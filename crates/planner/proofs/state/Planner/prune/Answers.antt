@@ -1,8 +1,6 @@
-use Rattle.std.proofs.Common.{◌≡◌, ℕ, ◌*◌, length, sym, refl, ap, ◌∙◌, subst, arith, rules}
-use Rattle.spreads.specs.Lines.{sum_to}
-use Rattle.stores.specs.Sets.{Rows, size_of}
+use Rattle.std.proofs.Common.{◌≡◌, ◌*◌, length, refl, ap, ◌∙◌, subst, arith, rules}
+use Rattle.stores.specs.Sets.{Rows}
 use Rattle.stores.specs.BitRows.{bit_rows}
-use Rattle.runs.specs.Tables.{starts}
 use Rattle.runs.specs.Planner.{prunes, takes, refuses}
 use Rattle.runs.proofs.Refusals.{prune_17, prune_21, prune_free}
 use Rattle.planner.specs.Levels.{at_marks}

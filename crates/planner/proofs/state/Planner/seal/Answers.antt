@@ -1,4 +1,4 @@
-use Rattle.std.proofs.Common.{◌≡◌, List, refl, ap, ◌∙◌}
+use Rattle.std.proofs.Common.{List, refl, ap, ◌∙◌}
 use Rattle.tickets.specs.declared.ticket.Ticket.{Ticket}
 use Rattle.runs.specs.Tables.{posted}
 use Rattle.runs.specs.Supports.{setting}

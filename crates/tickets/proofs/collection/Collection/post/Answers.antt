@@ -1,4 +1,4 @@
-use Rattle.std.proofs.Common.{◌≡◌, ◌<◌, ◌≤◌, [], ◌∷◌, ◌++◌, map, length, take, sym, refl, ap, ◌∙◌, arith, rules}
+use Rattle.std.proofs.Common.{[], ◌∷◌, ◌++◌, map, take, sym, refl, ap, ◌∙◌, arith}
 use Rattle.tickets.specs.Collections.{terms_of}
 use Rattle.tickets.proofs.Holding.{full, clear, many, more}
 use Rattle.tickets.proofs.collection.Collection.post.Goals as goal
