@@ -135,7 +135,7 @@ fn labels(rt: HostRuntime) -> Result<(), Fail> {
     match second.record {
         Record::Ticket { terms: _, label } => {
             assert_eq!(rt; label.place, 19);
-            assert!(rt; label.bytes == b"xy");
+            assert!(rt; label.bytes == b"xy".as_slice());
             Ok(())
         }
         _ => Err(Fail::new("the second record is a ticket")),
