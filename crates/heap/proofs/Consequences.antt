@@ -1,6 +1,6 @@
 -- What a heap's users draw from its contracts. Assumes nothing.
 use Rattle.std.proofs.Common.{◌≡◌, ℕ, ◌<◌, Bool, false, List, [], ◌∷◌, length, take, Some, None, Ok, Err, Option, Result, sym, ap, ◌∙◌, subst, arith}
-use Rattle.std.specs.List.{ContainsAt as Has, AllByRecursion as All}
+use Rattle.std.specs.List.{ContainsAt, AllByRecursion}
 use Rattle.std.specs.List.Sorted.{IsPermutation}
 use Rattle.std.proofs.ByRecursion.{all-has, All-take}
 use Rattle.std.proofs.lemmas.List.{length-take-le}
@@ -8,15 +8,15 @@ use Rattle.heap.specs.declared.heap.Heap.{Heap}
 use Rattle.heap.specs.Waiting.{by_key, waiting, room, Front, Sound, Pushed, Peeked, Popped}
 
 -- what holds of all that wait holds of the one in front
-pub of_front : {X : Type 0} (before : X → X → Bool) (P : X → Type 0) (xs : List X) (x : X) → Front before xs x → All P xs → P x
-of_front before P xs x f all = let h : All P (x ∷ []) = subst (All P) f.first (All-take P 1 xs all) in h.0
+pub of_front : {X : Type 0} (before : X → X → Bool) (P : X → Type 0) (xs : List X) (x : X) → Front before xs x → AllByRecursion P xs → P x
+of_front before P xs x f all = let h : AllByRecursion P (x ∷ []) = subst (AllByRecursion P) f.first (All-take P 1 xs all) in h.0
 
 same_front : {X : Type 0} (before : X → X → Bool) (xs : List X) (x y : X) → Front before xs x → Front before xs y → y ≡ x
 same_front before xs x y f g = let e = sym g.first ∙ f.first in cc
 
 -- where keys never tie, each entry that none is before has the key of the one in front
 pub least_key : {X K : Type 0} (before : K → K → Bool) (keyed : X → K) → ((a b : K) → before a b ≡ false → before b a ≡ false → a ≡ b)
-    → (xs : List X) (x y : X) → Front (by_key before keyed) xs x → Has xs y → All (λ z. by_key before keyed z y ≡ false) xs → keyed y ≡ keyed x
+    → (xs : List X) (x y : X) → Front (by_key before keyed) xs x → ContainsAt xs y → AllByRecursion (λ z. by_key before keyed z y ≡ false) xs → keyed y ≡ keyed x
 least_key before keyed apart xs x y f has least =
     apart (keyed y) (keyed x) (all-has (λ z. by_key before keyed z x ≡ false) xs y f.least has) (of_front (by_key before keyed) (λ z. by_key before keyed z y ≡ false) xs x f least)
 

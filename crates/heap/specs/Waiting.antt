@@ -1,6 +1,6 @@
 -- What waits in a heap, and what its calls make of it. Assumes nothing.
 use Rattle.std.specs.Prelude.{◌≡◌, ℕ, ◌+◌, ◌-◌, ◌/◌, ◌<◌, ◌≤◌, Bool, false, List, [], ◌∷◌, length, take, Some, None, Ok, Err, Option, Result, slice_index_or}
-use Rattle.std.specs.List.{AllByRecursion as All}
+use Rattle.std.specs.List.{AllByRecursion}
 use Rattle.std.specs.List.Sorted.{IsPermutation}
 use Rattle.heap.specs.declared.heap.Heap.{Heap}
 
@@ -20,7 +20,7 @@ module _ {X : Type 0} (before : X → X → Bool) where
   -- x stands first in xs, and no entry of xs is before it
   pub record Front (xs : List X) (x : X) : Type 0 where
     pub first : take 1 xs ≡ x ∷ []
-    pub least : All (λ y. before y x ≡ false) xs
+    pub least : AllByRecursion (λ y. before y x ≡ false) xs
 
 module _ {X K : Type 0} where
   -- the entries that wait

@@ -1,12 +1,12 @@
 -- What waits in a heap, by its numbers. Assumes nothing.
 use Rattle.std.proofs.Common.{◌≡◌, ℕ, zero, suc, ◌+◌, ◌⊎◌, List, [], ◌∷◌, length, sym, ap, ◌∙◌, inl, inr, le_of_suc-le-suc, arith}
-use Rattle.std.specs.List.{ContainsAt as Has, AllByRecursion as All}
+use Rattle.std.specs.List.{ContainsAt, AllByRecursion}
 use Rattle.std.specs.List.Sorted.{IsPermutation}
 use Rattle.std.proofs.ByRecursion.{has_get_or, has_append_right, all_shuffled, has_shuffled}
 use Rattle.std.proofs.lemmas.List.Sorted.{length_permutation}
 use Rattle.pricing.specs.Steps.{In}
 
-has_cons : {X : Type 0} (a : X) (xs : List X) (x : X) → Has (a ∷ xs) x → (a ≡ x) ⊎ Has xs x
+has_cons : {X : Type 0} (a : X) (xs : List X) (x : X) → ContainsAt (a ∷ xs) x → (a ≡ x) ⊎ ContainsAt xs x
 has_cons a xs x (zero, l, h) = inl (h a)
 has_cons a xs x (suc k, l, h) = inr (k, le_of_suc-le-suc l, h)
 
@@ -16,14 +16,14 @@ module _ {X : Type 0} (number : X → ℕ) where
     pub in_taken : (i : ℕ) → In number xs i → (i ≡ number x) ⊎ In number ys i
     in_taken i (y, h, e) = at (has_cons x ys y (has_shuffled xs (x ∷ ys) y s h))
       where
-        at : (x ≡ y) ⊎ Has ys y → (i ≡ number x) ⊎ In number ys i
+        at : (x ≡ y) ⊎ ContainsAt ys y → (i ≡ number x) ⊎ In number ys i
         at (inl q) = inl (sym e ∙ ap number (sym q))
         at (inr q) = inr (y, q, e)
 
-    pub all_taken : (P : X → Type 0) → All P xs → All P ys
+    pub all_taken : (P : X → Type 0) → AllByRecursion P xs → AllByRecursion P ys
     all_taken P h = (all_shuffled P xs (x ∷ ys) s h).1
 
-    pub one_taken : (P : X → Type 0) → All P xs → P x
+    pub one_taken : (P : X → Type 0) → AllByRecursion P xs → P x
     one_taken P h = (all_shuffled P xs (x ∷ ys) s h).0
 
     pub length_taken : length ys + 1 ≡ length xs
@@ -37,7 +37,7 @@ module _ {X : Type 0} (number : X → ℕ) where
     pub in_new : (i : ℕ) → number x ≡ i → In number ys i
     in_new i e = (x, has_shuffled (x ∷ xs) ys x s (has_get_or (x ∷ xs) 0 x (omega arith)), e)
 
-    pub all_put : (P : X → Type 0) → All P xs → P x → All P ys
+    pub all_put : (P : X → Type 0) → AllByRecursion P xs → P x → AllByRecursion P ys
     all_put P h p = all_shuffled P (x ∷ xs) ys s (p, h)
 
     pub length_put : length ys ≡ length xs + 1

@@ -1,6 +1,6 @@
 -- What holds between two events. Assumes nothing.
 use Rattle.std.proofs.Common.{◌≡◌, ℕ, ◌+◌, ◌*◌, ◌<◌, ◌≤◌, false, ◌⊎◌, List, length, get_or}
-use Rattle.std.specs.List.{AllByRecursion as All}
+use Rattle.std.specs.List.{AllByRecursion}
 use Rattle.tickets.specs.declared.ticket.Ticket.{Ticket}
 use Rattle.spreads.specs.Builder.{Builds, lengths}
 use Rattle.pricing.specs.declared.work.Work.{Work}
@@ -36,7 +36,7 @@ Under xs t j x = ((entry xs x.number).release ≤ t) × (higher x (rank_of xs j)
 -- what waits does not outrank what plays, and nothing waits where nothing plays; clock is the moment of the last event
 abbrev pub On : List Work → List Rank → List ℕ → ℕ → State → Type 0
 On xs R left clock (Idle s) = length R ≡ 0
-On xs R left clock (Playing j s) = (j < length xs) × ((entry xs j).release ≤ s) × (clock ≤ s + get_or left j 0) × All (Under xs clock j) R
+On xs R left clock (Playing j s) = (j < length xs) × ((entry xs j).release ≤ s) × (clock ≤ s + get_or left j 0) × AllByRecursion (Under xs clock j) R
 
 -- at most so many events are to come
 abbrev pub events : State → ℕ → ℕ → ℕ
@@ -46,12 +46,12 @@ pub record Going (xs : List Work) (state : State) (C : List Release) (R : List R
   pub places : length left ≡ 24
   pub count : length C + length R + busy state ≤ length xs
   pub few : length xs ≤ 24
-  pub coming : All (Ours xs (length xs)) C
-  pub ready : All (Rated xs) R
+  pub coming : AllByRecursion (Ours xs (length xs)) C
+  pub ready : AllByRecursion (Rated xs) R
   pub short : (i : ℕ) → get_or left i 0 ≤ 16
   pub clock : ℕ
   pub begun : start state ≤ clock
-  pub later : All (λ x. clock ≤ x.slot) C
+  pub later : AllByRecursion (λ x. clock ≤ x.slot) C
   pub held : (i : ℕ) → i < length xs → 0 < get_or left i 0 → Coming C i ⊎ (Waits R i ⊎ Plays state i)
   pub on : On xs R left clock state
   pub soon : start state + 16 * events state (length C) (length R) ≤ 255 + 16 * 48

@@ -1,6 +1,6 @@
 -- One event after the other. Assumes nothing.
 use Rattle.std.proofs.Common.{◌≡◌, ℕ, ◌+◌, ◌-◌, ◌*◌, ◌/◌, ◌<◌, ◌≤◌, false, ◌⊎◌, List, [], ◌∷◌, length, get_or, set, Some, sym, refl, ap, ◌∙◌, subst, inl, inr, add-zero, zero-add, arith, length-set, get_or-set_other, get_or-set_same}
-use Rattle.std.specs.List.{AllByRecursion as All}
+use Rattle.std.specs.List.{AllByRecursion}
 use Rattle.std.specs.List.Sorted.{IsPermutation}
 use Rattle.std.proofs.lemmas.Bool.{cases_eq, cases_lt}
 use Rattle.std.proofs.ByRecursion.{all-has, All-weaker}
@@ -44,7 +44,7 @@ set_le left o y within less i =
     ]
 
 -- what is to come is released at t or later
-comes : (xs : List Work) (C : List Release) → All (Ours xs (length xs)) C → (t : ℕ) → All (λ x. t ≤ x.slot) C → (i : ℕ) → Coming C i → t ≤ (entry xs i).release
+comes : (xs : List Work) (C : List Release) → AllByRecursion (Ours xs (length xs)) C → (t : ℕ) → AllByRecursion (λ x. t ≤ x.slot) C → (i : ℕ) → Coming C i → t ≤ (entry xs i).release
 comes xs C known t late i (x, h, e) =
     let a = all-has (Ours xs (length xs)) C x known h in
     let b = all-has (λ x. t ≤ x.slot) C x late h in
@@ -68,7 +68,7 @@ module _ (xs : List Work) (C : List Release) (R : List Rank) (left : List ℕ) (
       subst (λ (y : Rank). higher y (rank_of xs j) ≡ false) (a.1 ∙ ap (λ (k : ℕ). rank_of xs k) e) b.1
 
   module _ (ts : List Ticket) (r v : ℕ → ℕ) (st : Stands ts r v xs) where
-    first_on : (d : ℕ) → d ≤ get_or left j 0 → All (λ x. s + d ≤ x.slot) C → (k : ℕ) → k < d → First ts r v (s + k) (set left j (get_or left j 0 - k)) j
+    first_on : (d : ℕ) → d ≤ get_or left j 0 → AllByRecursion (λ x. s + d ≤ x.slot) C → (k : ℕ) → k < d → First ts r v (s + k) (set left j (get_or left j 0 - k)) j
     first_on d h f k l =
         let e : get_or (set left j (get_or left j 0 - k)) j 0 ≡ get_or left j 0 - k = get_or-set_same left j (get_or left j 0 - k) 0 known in
         let jt : j < length ts = omega (arith, g.on.0, st.many) in (
@@ -86,7 +86,7 @@ module _ (xs : List Work) (C : List Release) (R : List Rank) (left : List ℕ) (
               ]),
         )
 
-    pub plays_on : (at : ℕ) → s ≤ at → at - s ≤ get_or left j 0 → All (λ x. at ≤ x.slot) C → (cost : ℕ) → cost ≡ stretch_of (entry xs j) s at → (c : ℕ)
+    pub plays_on : (at : ℕ) → s ≤ at → at - s ≤ get_or left j 0 → AllByRecursion (λ x. at ≤ x.slot) C → (cost : ℕ) → cost ≡ stretch_of (entry xs j) s at → (c : ℕ)
         → Builds ts r v at (set left j (get_or left j 0 - (at - s))) c → Builds ts r v 0 (lengths ts) (spent + cost + c)
     plays_on at after h f cost paid c q =
         let e : s + (at - s) ≡ at = omega arith in
@@ -119,7 +119,7 @@ module _ (xs : List Work) (st : State) (C C' : List Release) (R : List Rank) (le
   pub fewer : length C' + 1 ≡ length C
   fewer = length_taken slot_number C n.0 C' n.5
 
-  kept : (P : Release → Type 0) → All P C → All P C'
+  kept : (P : Release → Type 0) → AllByRecursion P C → AllByRecursion P C'
   kept P h = all_taken slot_number C n.0 C' n.5 P h
 
 -- and nothing plays: it plays
@@ -176,7 +176,7 @@ module _ (xs : List Work) (C C' : List Release) (R : List Rank) (left : List ℕ
 module _ (xs : List Work) (C C' : List Release) (R R' : List Rank) (left : List ℕ) (spent j at o s : ℕ)
     (g : Going xs (Playing o s) C R left spent) (n : Next (Playing o s) left C C' (Some (Released j, at))) where
   -- those that waited, at the later clock and under the ticket k
-  still_under : (k : ℕ) → higher (rank_of xs o) (rank_of xs k) ≡ false → All (Under xs at k) R
+  still_under : (k : ℕ) → higher (rank_of xs o) (rank_of xs k) ≡ false → AllByRecursion (Under xs at k) R
   still_under k over =
       let l : g.clock ≤ at = later_at xs (Playing o s) C C' R left spent j at g n in
       All-weaker (Under xs g.clock o) (Under xs at k) (λ y h. (omega (arith, h.0), higher_chain (rank_of xs k) (rank_of xs o) y over h.1)) R g.on.3
@@ -278,8 +278,8 @@ module _ (xs : List Work) (C C' : List Release) (R : List Rank) (left : List ℕ
       let z : 0 ≡ get_or left o 0 - (at - s) = omega arith in
       plays_on xs C R left spent o s g ts r v st at (omega arith) (omega arith) n.2 cost is c (like ts r v refl (ap (λ (y : ℕ). set left o y) z) refl q)
 
-  same : (P : Release → Type 0) → All P C → All P C'
-  same P h = subst (λ (b : List Release). All P b) (sym n.3) h
+  same : (P : Release → Type 0) → AllByRecursion P C → AllByRecursion P C'
+  same P h = subst (λ (b : List Release). AllByRecursion P b) (sym n.3) h
 
   as_many : length C' ≡ length C
   as_many = ap length n.3
@@ -308,7 +308,7 @@ module _ (xs : List Work) (C C' : List Release) (R : List Rank) (left : List ℕ
       }
 
   -- and x, which none outranks, waits no longer
-  pub goes_on : (x : Rank) (R' : List Rank) (k : ℕ) → k ≡ x.number → IsPermutation R (x ∷ R') → All (λ y. higher y x ≡ false) R
+  pub goes_on : (x : Rank) (R' : List Rank) (k : ℕ) → k ≡ x.number → IsPermutation R (x ∷ R') → AllByRecursion (λ y. higher y x ≡ false) R
       → Going xs (Playing k at) C' R' (set left o 0) (spent + cost)
   goes_on x R' k num took top =
       let c : g.clock ≤ at = omega (arith, g.on.2, n.1) in
@@ -337,14 +337,14 @@ module _ (xs : List Work) (C C' : List Release) (R : List Rank) (left : List ℕ
           omega (arith, b.0, ap (λ (z : ℕ). (entry xs z).release) num),
           omega arith,
           all_taken rank_number R x R' took (Under xs at k)
-              (both R (All-weaker (Under xs g.clock o) (λ x. (entry xs x.number).release ≤ at) (λ y h. omega (arith, h.0)) R g.on.3) (subst (λ (z : Rank). All (λ y. higher y z ≡ false) R) ek top)),
+              (both R (All-weaker (Under xs g.clock o) (λ x. (entry xs x.number).release ≤ at) (λ y h. omega (arith, h.0)) R g.on.3) (subst (λ (z : Rank). AllByRecursion (λ y. higher y z ≡ false) R) ek top)),
         );
         soon = omega (arith, g.soon, n.1, as_many, g.short o);
         cheap = omega (arith, g.cheap, as_many);
         so_far = paid;
       }
     where
-      both : (R : List Rank) → All (λ x. (entry xs x.number).release ≤ at) R → All (λ y. higher y (rank_of xs k) ≡ false) R → All (Under xs at k) R
+      both : (R : List Rank) → AllByRecursion (λ x. (entry xs x.number).release ≤ at) R → AllByRecursion (λ y. higher y (rank_of xs k) ≡ false) R → AllByRecursion (Under xs at k) R
       both [] h q = tt
       both (x ∷ R) h q = ((h.0, q.0), both R h.1 q.1)
 

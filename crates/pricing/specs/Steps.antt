@@ -1,6 +1,6 @@
 -- What the steps of the builder find. Assumes nothing.
 use Rattle.std.specs.Prelude.{◌≡◌, ℕ, ◌+◌, ◌<◌, ◌≤◌, List, ◌∷◌, length, Some, None, Option, slice_index}
-use Rattle.std.specs.List.{ContainsAt as Has, AllByRecursion as All}
+use Rattle.std.specs.List.{ContainsAt, AllByRecursion}
 use Rattle.std.specs.List.Sorted.{IsPermutation}
 use Rattle.tickets.specs.declared.ticket.Ticket.{Ticket}
 use Rattle.spreads.specs.Builder.{Builds, lengths, halves}
@@ -14,7 +14,7 @@ use Rattle.pricing.specs.Works.{entry, Stands}
 
 -- one of xs has the number i
 abbrev pub In : {X : Type 0} → (X → ℕ) → List X → ℕ → Type 0
-In {X} number xs i = (x : X) × Has xs x × (number x ≡ i)
+In {X} number xs i = (x : X) × ContainsAt xs x × (number x ≡ i)
 
 -- the release of a ticket that is still to come
 abbrev pub Coming : List Release → ℕ → Type 0
@@ -27,7 +27,7 @@ Ours xs n x = (x.number < n) × (x.slot ≡ (entry xs x.number).release)
 -- the first n entries are entered: each has its release in C, and its length in `left`
 pub record Entered (xs : List Work) (n : ℕ) (C : List Release) (left : List ℕ) : Type 0 where
   pub many : length C ≡ n
-  pub ours : All (Ours xs n) C
+  pub ours : AllByRecursion (Ours xs n) C
   pub all : (i : ℕ) → i < n → Coming C i
   pub places : length left ≡ 24
   pub here : (i : ℕ) → i < n → slice_index left i ≡ (entry xs i).length
@@ -52,8 +52,8 @@ Fine left (Playing j s) = (j < length left) × (s + slice_index left j < 65535)
 abbrev pub Next : State → List ℕ → List Release → List Release → Option (Event × ℕ) → Type 0
 Next state left C C' None = (busy state ≡ 0) × (length C ≡ 0)
 Next state left C C' (Some (Released j, at)) =
-    (x : Release) × (x.number ≡ j) × (x.slot ≡ at) × (at < end state left) × All (λ y. at ≤ y.slot) C × IsPermutation C (x ∷ C') × (at ≤ 255)
-Next state left C C' (Some (Completion, at)) = (busy state ≡ 1) × (at ≡ end state left) × All (λ y. at ≤ y.slot) C × (C' ≡ C)
+    (x : Release) × (x.number ≡ j) × (x.slot ≡ at) × (at < end state left) × AllByRecursion (λ y. at ≤ y.slot) C × IsPermutation C (x ∷ C') × (at ≤ 255)
+Next state left C C' (Some (Completion, at)) = (busy state ≡ 1) × (at ≡ end state left) × AllByRecursion (λ y. at ≤ y.slot) C × (C' ≡ C)
 
 -- c has the busy terms of what is built of the entries, whatever tickets they stand for
 abbrev pub Busy : List Work → ℕ → Type 0

@@ -1,6 +1,6 @@
 -- The table of figures, checked by computing each. Assumes nothing.
 use Rattle.std.proofs.Common.{◌≡◌, Bool, true, ◌&&◌, eqb, ltb, List, [], ◌∷◌, length, refl, subst}
-use Rattle.std.specs.List.{AllByRecursion as All}
+use Rattle.std.specs.List.{AllByRecursion}
 use Rattle.std.proofs.lemmas.Bool.{and_parts, eqb-true, ltb-true}
 use Rattle.spreads.specs.Spreads.{LeastPrice}
 use Rattle.spreads.specs.Pinned.{LeastPinned}
@@ -25,7 +25,7 @@ abbrev all_right : List (Day × Figure) → Bool
 all_right [] = true
 all_right (x ∷ xs) = right x.0 x.1 && all_right xs
 
-all_sound : (xs : List (Day × Figure)) → all_right xs ≡ true → All (λ x. Says x.0 x.1) xs
+all_sound : (xs : List (Day × Figure)) → all_right xs ≡ true → AllByRecursion (λ x. Says x.0 x.1) xs
 all_sound [] e = tt
 all_sound (x ∷ xs) e =
     let both = and_parts (right x.0 x.1) (all_right xs) e in

@@ -1,7 +1,7 @@
 -- Worked days: their prices, as figures. Assumes nothing.
 use Rattle.std.specs.Prelude.{◌≡◌, ℕ, ◌+◌, ◌*◌, ◌/◌, ◌<◌, T, List, [], ◌∷◌, length, nat_le}
 use Rattle.std.proofs.Common.{lit≤}
-use Rattle.std.specs.List.{AllByRecursion as All}
+use Rattle.std.specs.List.{AllByRecursion}
 use Rattle.tickets.specs.declared.ticket.Ticket.{Ticket}
 use Rattle.spreads.specs.Spreads.{LeastPrice}
 use Rattle.spreads.specs.Pinned.{LeastPinned}
@@ -71,4 +71,4 @@ figures =
 
 -- each says what is so
 abbrev pub FiguresHold : Type 0
-FiguresHold = All (λ x. Says x.0 x.1) figures
+FiguresHold = AllByRecursion (λ x. Says x.0 x.1) figures

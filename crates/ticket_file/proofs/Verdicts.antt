@@ -1,7 +1,7 @@
 -- A file has one verdict, whoever judges the contents: its records, or one fault. Assumes nothing.
 use Rattle.std.proofs.Common.{◌≡◌, ℕ, ◌+◌, ◌-◌, ◌<◌, ◌≤◌, cond, eqb, ◌⊎◌, List, [], ◌∷◌, ◌++◌, length, get_or, take, drop, sym, refl, ap, ◌∙◌, subst, inl, inr, ⊎_elim, append_assoc, append-nil, arith, length-append, length-drop, take-append-drop}
 use mathlib.Core.List.{map-append}
-use Rattle.std.specs.List.{flat_map, AllByRecursion as All}
+use Rattle.std.specs.List.{flat_map, AllByRecursion}
 use Rattle.std.proofs.lemmas.List.{append_cancel_left, get_or-drop, take_all, drop_all, length-take-le}
 use Rattle.std.proofs.lemmas.Bool.{cases_order}
 use Rattle.tickets.specs.Refusals.{Answers}
@@ -33,11 +33,11 @@ module _ (file : List ℕ) (p : ℕ) (r : Rec) (h : Lies file p r) where
 same_record : (file : List ℕ) (p : ℕ) (r q : Rec) → Lies file p r → Lies file p q → q ≡ r
 same_record file p r q h k = sym (prefix_free r q h.rest k.rest (sym h.is ∙ k.is)).0
 
-pub all_mid : (rs more : List Rec) (r : Rec) → All Fit (rs ++ r ∷ more) → Fit r
+pub all_mid : (rs more : List Rec) (r : Rec) → AllByRecursion Fit (rs ++ r ∷ more) → Fit r
 all_mid [] more r h = h.0
 all_mid (x ∷ rs) more r h = all_mid rs more r h.1
 
-pub all_front : (rs more : List Rec) → All Fit (rs ++ more) → All Fit rs
+pub all_front : (rs more : List Rec) → AllByRecursion Fit (rs ++ more) → AllByRecursion Fit rs
 all_front [] more h = tt
 all_front (x ∷ rs) more h = (h.0, all_front rs more h.1)
 
@@ -136,7 +136,7 @@ module _ {E : Type 0} (j : Judge E) (later : (e : E) → 7 < (j e).number) where
       (record {
         rest = flat_map bytes more ++ drop q file;
         is = is ∙ append_assoc (bytes r) (flat_map bytes more) (drop q file);
-        fit = all_mid rs more r (subst (All Fit) same u.fit);
+        fit = all_mid rs more r (subst (AllByRecursion Fit) same u.fit);
       })
       (begins_mid rs more r (subst (λ l. Begins (kinds l)) same u.begins)) w (λ e _ m. u.taken rs more r same e m) b)
 

@@ -1,6 +1,6 @@
 -- What is wrong with a file, and where. Assumes nothing.
 use Rattle.std.specs.Prelude.{◌≡◌, ℕ, ◌+◌, ◌<◌, ◌≤◌, ◌⊎◌, List, [], ◌∷◌, ◌++◌, length, take, drop, ◌≢◌, slice_index}
-use Rattle.std.specs.List.{AllByRecursion as All}
+use Rattle.std.specs.List.{AllByRecursion}
 use Rattle.tickets.specs.Refusals.{Meaning, Clear}
 use Rattle.ticket_file.specs.declared.refusal.FileRefusal.{FileRefusal}
 use Rattle.ticket_file.specs.declared.refusal.FileRefusal.TheVariants.{TooLong, NotATicketFile, OtherVersion, PastEnd, UnknownKind, BodyLength, OutOfOrder}
@@ -23,7 +23,7 @@ pub record Upto {E : Type 0} (j : Judge E) (file : List ℕ) (p : ℕ) (rs : Lis
   pub small : length file ≤ 32768
   pub within : p ≤ length file
   pub is : take p file ≡ file_of rs
-  pub fit : All Fit rs
+  pub fit : AllByRecursion Fit rs
   pub begins : Begins (kinds rs)
   pub taken : Taken j rs
 

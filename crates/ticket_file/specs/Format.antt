@@ -1,6 +1,6 @@
 -- What a ticket file is: a header, then the bytes of a list of records. Assumes nothing.
 use Rattle.std.specs.Prelude.{◌≡◌, ℕ, ◌/◌, ◌%◌, ◌≤◌, List, [], ◌∷◌, ◌++◌, map, length, replicate}
-use Rattle.std.specs.List.{flat_map, AllByRecursion as All}
+use Rattle.std.specs.List.{flat_map, AllByRecursion}
 use Rattle.tickets.specs.declared.terms.Terms.{Terms}
 
 -- a record: a ticket with its label, the ceiling, or a ticket and a start to ban
@@ -58,7 +58,7 @@ kinds rs = map kind rs
 pub record Holds (file : List ℕ) (rs : List Rec) : Type 0 where
   pub small : length file ≤ 32768
   pub is : file ≡ file_of rs
-  pub fit : All Fit rs
+  pub fit : AllByRecursion Fit rs
   pub whole : Whole (kinds rs)
 
 -- no two lists of records have the same bytes

@@ -1,6 +1,6 @@
 -- What reading a file gives. Assumes nothing.
 use Rattle.std.specs.Prelude.{◌≡◌, ℕ, ◌+◌, ◌<◌, ◌≤◌, ◌⊎◌, List, [], ◌∷◌, ◌++◌, map, length, take, replicate, Some, None, Ok, Err, vec_items, Option, Result, ◌≢◌}
-use Rattle.std.specs.List.{AllByRecursion as All}
+use Rattle.std.specs.List.{AllByRecursion}
 use Rattle.ticket_file.specs.declared.refusal.FileRefusal.{FileRefusal}
 use Rattle.ticket_file.specs.declared.refusal.FileRefusal.TheVariants.{UnknownKind, BodyLength}
 use Rattle.ticket_file.specs.declared.refusal.FileFault.{FileFault}
@@ -71,7 +71,7 @@ pub record Sofar (file : List ℕ) (p : ℕ) (s : Stage) (rs : List Rec) : Type 
   pub small : length file ≤ 32768
   pub within : p ≤ length file
   pub is : take p file ≡ file_of rs
-  pub fit : All Fit rs
+  pub fit : AllByRecursion Fit rs
   pub follows : Follows s (kinds rs)
 
 -- one step from the place p: the record there, or the file's fault

@@ -1,5 +1,5 @@
 use Rattle.std.proofs.Common.{◌≡◌, ◌≤◌, length, refl, ap, arith}
-use Rattle.std.specs.List.{AllByRecursion as All}
+use Rattle.std.specs.List.{AllByRecursion}
 use Rattle.heap.specs.Waiting.{waiting}
 use Rattle.heap.proofs.Consequences.{as_peeked}
 use Rattle.pricing.specs.declared.step.State.{State}
@@ -31,5 +31,5 @@ returns-in-Playing c =
     let C = waiting c.args.coming.now in
     let s = c.in-Playing.is in
     let t = c.done_at-end.result in
-    let z : All (λ y. t ≤ y.slot) C = elim c.match-peek.branch [ in-Some+else-at-end w ↦ later C w.in-Some.first t w.in-Some.ensures (omega (arith, w.if-at-end.false)) | in_default w ↦ all_none (λ y. t ≤ y.slot) C w.in_default.ensures ] in
+    let z : AllByRecursion (λ y. t ≤ y.slot) C = elim c.match-peek.branch [ in-Some+else-at-end w ↦ later C w.in-Some.first t w.in-Some.ensures (omega (arith, w.if-at-end.false)) | in_default w ↦ all_none (λ y. t ≤ y.slot) C w.in_default.ensures ] in
     record { sound = c.requires.sound; next = (ap busy s, c.done_at-end.ensures, z, refl) }
