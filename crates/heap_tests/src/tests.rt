@@ -1,5 +1,5 @@
 ghost use Rattle.std.specs.Prelude.{nat_lt};
-ghost use Rattle.std.proofs.Common.{rules};
+ghost use Rattle.heap_tests.specs.Orders.{lower_asymmetric, lower_chains, lower_apart};
 
 use heap::{Entry, Heap, Order};
 use std::test::Fail;
@@ -11,11 +11,11 @@ struct Number(u16);
 impl Order for Number {
     ghost before = { λ a b. nat_lt a.0 b.0 };
 
-    ghost asymmetric = { Prim.search rules };
+    ghost asymmetric = { λ a b. lower_asymmetric a.0 b.0 };
 
-    ghost chains = { Prim.search rules };
+    ghost chains = { λ a b c. lower_chains a.0 b.0 c.0 };
 
-    ghost apart = { Prim.search rules };
+    ghost apart = { λ a b h k i. record { 0 = lower_apart a.0 b.0 h k i } };
 
     fn is_before(&self, other: &Number) -> bool {
         self.0 < other.0
@@ -46,11 +46,11 @@ struct Parcel {
 impl Order for Load {
     ghost before = { λ a b. nat_lt b.0 a.0 };
 
-    ghost asymmetric = { Prim.search rules };
+    ghost asymmetric = { λ a b. lower_asymmetric b.0 a.0 };
 
-    ghost chains = { Prim.search rules };
+    ghost chains = { λ a b c h k. lower_chains c.0 b.0 a.0 k h };
 
-    ghost apart = { Prim.search rules };
+    ghost apart = { λ a b h k i. record { 0 = lower_apart a.0 b.0 k h i } };
 
     fn is_before(&self, other: &Load) -> bool {
         self.0 > other.0
