@@ -10,9 +10,9 @@ use Rattle.spreads.specs.Lines.{slot_sum}
 use Rattle.spreads.specs.Spreads.{blank, ticket, value, half, release}
 use Rattle.spreads.proofs.Sums.{sum_none}
 use Rattle.spreads.proofs.Exists.{pinned_price, pinned_price_is}
-use Rattle.runs.specs.Tables.{Table, posted, Within, Early, SelfSupporting, Narrowed, NoneWithin, Largest}
+use Rattle.runs.specs.Tables.{Table, posted, Within, SelfSupporting, Narrowed, NoneWithin, Largest}
 use Rattle.runs.specs.Supports.{setting}
-use Rattle.runs.proofs.Tables.{within_early, self_early}
+use Rattle.runs.proofs.Tables.{Early, within_early, self_early}
 use Rattle.runs.proofs.Supports.{laws, priced}
 use Rattle.runs.proofs.Pruning.{narrowed_none, narrowed_empty, narrowed_largest}
 use Rattle.figures.specs.Worked.{Ends, table}

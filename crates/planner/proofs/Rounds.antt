@@ -4,8 +4,8 @@ use Rattle.std.proofs.lemmas.Bool.{cases_Bool, cases_eq, cases_lt, both_ways}
 use Rattle.stores.specs.Sets.{Rows, Bounded, without, Earliest}
 use Rattle.stores.specs.Moves.{without_held, without_other, without_named}
 use Rattle.stores.proofs.Firsts.{earliest_least}
-use Rattle.runs.specs.Tables.{Setting, Within, Releases, Early, starts, NoneWithin, Narrowed, Largest}
-use Rattle.runs.proofs.Tables.{Laws, releases_early, within_early}
+use Rattle.runs.specs.Tables.{Setting, Within, Releases, starts, NoneWithin, Narrowed, Largest}
+use Rattle.runs.proofs.Tables.{Early, Laws, releases_early, within_early}
 use Rattle.runs.proofs.Starts.{starts_within, starts_without}
 use Rattle.runs.proofs.Pruning.{narrowed_none, narrowed_trans, narrowed_less, narrowed_empty, narrowed_largest}
 use Rattle.planner.specs.Sets.{Out}

@@ -3,8 +3,8 @@ use Rattle.std.proofs.Common.{◌≡◌, ◌∙◌, ℕ, ◌<◌, true, false, �
 use Rattle.std.proofs.lemmas.Bool.{both_ways, cases_Bool}
 use Rattle.stores.specs.Sets.{without}
 use Rattle.stores.specs.Moves.{without_held, without_other}
-use Rattle.runs.specs.Tables.{Table, Setting, Within, Releases, Early, Narrowed, NoneWithin, Largest}
-use Rattle.runs.proofs.Tables.{Laws, within_early, self_early}
+use Rattle.runs.specs.Tables.{Table, Setting, Within, Releases, Narrowed, NoneWithin, Largest}
+use Rattle.runs.proofs.Tables.{Laws, Early, within_early, self_early}
 
 pub narrowed_none : (w : Setting) (U : ℕ) (S : Table) → Narrowed w U S S
 narrowed_none w U S = record { within = λ i t on. on; keeps = λ T _ h. h }

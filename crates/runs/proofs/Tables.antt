@@ -3,7 +3,7 @@ use Rattle.std.proofs.Common.{◌≡◌, ℕ, ◌<◌, ◌≤◌, true, false, �
 use Rattle.std.proofs.lemmas.Bool.{cases_Bool, both_ways, and_parts, and_from, and_left, eqb-true, eq-eqb, lt-ltb, le-ltb, le-leb}
 use Rattle.std.proofs.lemmas.Bool.Decides.{nat_tests}
 use Rattle.stores.proofs.Firsts.{earliest_least}
-use Rattle.runs.specs.Tables.{Table, Plan, Setting, posted, Within, Full, PastEmpty, Releases, Early, SelfSupporting}
+use Rattle.runs.specs.Tables.{Table, Plan, Setting, posted, Within, Full, PastEmpty, Releases, SelfSupporting}
 
 -- No ticket is without a start. What releases support, lower ones support; what a ceiling supports, a higher one supports; and the starts
 -- of an affordable plan, as releases, support each of them.
@@ -12,6 +12,10 @@ pub record Laws (w : Setting) : Type 0 where
   pub fall : (r r' : ℕ → ℕ) (i t U : ℕ) → ((j : ℕ) → j < w.tickets → r' j ≤ r j) → w.supports r i t U → w.supports r' i t U
   pub rise : (r : ℕ → ℕ) (i t U V : ℕ) → U ≤ V → w.supports r i t U → w.supports r i t V
   pub plan : (s : Plan) (U : ℕ) → w.affords s U → (i : ℕ) → i < w.tickets → w.supports s i (s i) U
+
+-- r releases no ticket after a start of its row
+abbrev pub Early : Setting → Table → (ℕ → ℕ) → Type 0
+Early w T r = (i t : ℕ) → i < w.tickets → T i t ≡ true → r i ≤ t
 
 -- the table of one plan
 abbrev pub one : Setting → Plan → Table

@@ -45,10 +45,6 @@ starts w T = sum_to w.tickets (λ i. size_of (T i))
 abbrev pub Releases : Setting → Table → (ℕ → ℕ) → Type 0
 Releases w T r = (i : ℕ) → i < w.tickets → Earliest (T i) 0 (r i)
 
--- r releases no ticket after a start of its row
-abbrev pub Early : Setting → Table → (ℕ → ℕ) → Type 0
-Early w T r = (i t : ℕ) → i < w.tickets → T i t ≡ true → r i ≤ t
-
 -- under the ceiling U, start t of ticket i is supported by the table
 abbrev pub Supported : Setting → ℕ → Table → ℕ → ℕ → Type 0
 Supported w U T i t = (r : ℕ → ℕ) × Releases w T r × w.supports r i t U
