@@ -2,9 +2,9 @@
 
 #![tactic(auto)]
 
-use anyhow::anyhow;
 use day::Fault;
 use std::io::Read;
+use std::process::ExitCode;
 
 /// One byte more than the longest file, so that a longer one is told from it.
 const ENOUGH_BYTES: u64 = 32769;
@@ -19,9 +19,9 @@ fn print_report(rt: &HostRuntime) -> anyhow::Result<Option<Fault>> {
     Ok(report.fault)
 }
 
-fn main(rt: HostRuntime) -> anyhow::Result<()> {
+fn main(rt: HostRuntime) -> anyhow::Result<ExitCode> {
     match print_report(&rt)? {
-        None => Ok(()),
-        Some(_) => Err(anyhow!("the file has a fault")),
+        None => Ok(ExitCode::SUCCESS),
+        Some(_) => Ok(ExitCode::FAILURE),
     }
 }
