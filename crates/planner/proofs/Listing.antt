@@ -5,7 +5,7 @@ use Rattle.std.proofs.lemmas.List.{get_or-set_other, get_or-set_same}
 use Rattle.std.proofs.lemmas.Bool.{cases_eq, cases_Bool, both_ways}
 use Rattle.std.proofs.lemmas.Bool.Decides.{nat_tests}
 use Rattle.stores.specs.Sets.{Rows, Bounded, Earliest, with, count, size_of}
-use Rattle.stores.specs.Counts.{count_add, count_none, count_most}
+use Rattle.stores.proofs.Counts.{count_add, count_none, count_most}
 use Rattle.spreads.specs.Lines.{sum_to}
 use Rattle.spreads.proofs.Sums.{sum_grows}
 use Rattle.planner.specs.Sets.{union, only_row}

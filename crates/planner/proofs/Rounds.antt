@@ -2,7 +2,7 @@
 use Rattle.std.proofs.Common.{◌≡◌, ℕ, ◌+◌, ◌<◌, ◌≤◌, Bool, true, false, ◌⊎◌, sym, refl, ap, ◌∙◌, subst, inl, inr, ⊎_elim, arith}
 use Rattle.std.proofs.lemmas.Bool.{cases_Bool, cases_eq, cases_lt, both_ways}
 use Rattle.stores.specs.Sets.{Rows, Bounded, without, Earliest}
-use Rattle.stores.specs.Moves.{without_held, without_other, without_named}
+use Rattle.stores.proofs.Moves.{without_held, without_other, without_named}
 use Rattle.stores.proofs.Firsts.{earliest_least}
 use Rattle.runs.specs.Tables.{Setting, Within, Releases, starts, NoneWithin, Narrowed, Largest}
 use Rattle.runs.proofs.Tables.{Early, Laws, releases_early, within_early}

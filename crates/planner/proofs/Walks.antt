@@ -4,7 +4,7 @@ use mathlib.Core.Path.{fun_ext}
 use Rattle.std.proofs.lemmas.Bool.{cases_Bool, cases_eq, cases_lt}
 use Rattle.std.proofs.lemmas.Bool.Decides.{nat_tests}
 use Rattle.stores.specs.Sets.{Rows, Bounded, without, with, Earliest}
-use Rattle.stores.specs.Moves.{held_inside}
+use Rattle.stores.proofs.Moves.{held_inside}
 use Rattle.runs.specs.Orders.{fixed}
 use Rattle.planner.specs.Sets.{union, only_row, without_row, range_of, Out}
 use Rattle.planner.specs.Words.{rows_below}

@@ -3,7 +3,7 @@ use Rattle.std.proofs.Common.{◌≡◌, ℕ, ◌≤◌, true, ◌⊎◌, List, 
 use Rattle.std.proofs.lemmas.Bool.{cases_eq}
 use Rattle.std.proofs.lemmas.Bool.Decides.{nat_tests}
 use Rattle.stores.specs.Sets.{without, size_of}
-use Rattle.stores.specs.Moves.{without_held, without_other}
+use Rattle.stores.proofs.Moves.{without_held, without_other}
 use Rattle.runs.specs.Tables.{Table, Setting, posted, Within, Full}
 use Rattle.runs.specs.Orders.{Order, ban, fix, fixed, less, ordered}
 use Rattle.runs.proofs.Starts.{another}

@@ -2,7 +2,7 @@
 use Rattle.std.proofs.Common.{◌≡◌, ◌∙◌, ℕ, ◌<◌, true, false, ⊎_elim}
 use Rattle.std.proofs.lemmas.Bool.{both_ways, cases_Bool}
 use Rattle.stores.specs.Sets.{without}
-use Rattle.stores.specs.Moves.{without_held, without_other}
+use Rattle.stores.proofs.Moves.{without_held, without_other}
 use Rattle.runs.specs.Tables.{Table, Setting, Within, Releases, Narrowed, NoneWithin, Largest}
 use Rattle.runs.proofs.Tables.{Laws, Early, within_early, self_early}
 

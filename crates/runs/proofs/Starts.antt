@@ -2,8 +2,8 @@
 use Rattle.std.proofs.Common.{◌≡◌, ℕ, zero, suc, ◌+◌, ◌-◌, ◌*◌, ◌<◌, ◌≤◌, Bool, true, false, not, ◌&&◌, ◌⊎◌, sym, refl, ap, ◌∙◌, inl, inr, ⊎_elim, arith}
 use Rattle.std.proofs.lemmas.Bool.{cases_eq, cases_lt, cases_Bool}
 use Rattle.stores.specs.Sets.{Bounded, without, count, size_of}
-use Rattle.stores.specs.Moves.{without_named, without_other, without_row}
-use Rattle.stores.specs.Counts.{count_mono, count_some, count_found, count_one_more, count_most, size_without}
+use Rattle.stores.proofs.Moves.{without_named, without_other, without_row}
+use Rattle.stores.proofs.Counts.{count_mono, count_some, count_found, count_one_more, count_most, size_without}
 use Rattle.spreads.specs.Lines.{sum_to}
 use Rattle.spreads.proofs.Sums.{sum_le, sum_same, sum_add}
 use Rattle.runs.specs.Tables.{Table, Setting, Within, Full, starts}

@@ -4,8 +4,8 @@ use lib.Count.{ones, ones_step, ones-le, count_trailing_zeros}
 use Rattle.std.proofs.lemmas.Nat.{pow-add, shr_below}
 use Rattle.stores.specs.Sets.{count}
 use Rattle.stores.specs.Words.{bit, FirstBit}
-use Rattle.stores.specs.Counts.{count_same, count_add, count_most}
-use Rattle.stores.specs.Bits.{bit_zero, bit_shr}
+use Rattle.stores.proofs.Counts.{count_same, count_add, count_most}
+use Rattle.stores.proofs.Bits.{bit_zero, bit_shr}
 
 two : (x : ℕ) → (x % 2 ≡ 0) ⊎ (x % 2 ≡ 1)
 two x = grind arith

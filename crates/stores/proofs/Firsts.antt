@@ -4,8 +4,8 @@ use Rattle.std.proofs.lemmas.Bool.{cases_Bool, cases_lt, both_ways}
 use Rattle.std.proofs.lemmas.Bool.Decides.{nat_tests}
 use Rattle.stores.specs.Sets.{Rows, inside, Bounded, Earliest, First}
 use Rattle.stores.specs.SetLaws.{AfterLaws, RangeLaws, SetLaws}
-use Rattle.stores.specs.Moves.{held_inside, without_absent, with_present, moves}
-use Rattle.stores.specs.Counts.{count_none, sizes}
+use Rattle.stores.proofs.Moves.{held_inside, without_absent, with_present, moves}
+use Rattle.stores.proofs.Counts.{count_none, sizes}
 
 -- the earliest start is not after any other at or after `from`
 pub earliest_least : (f : ℕ → Bool) (from v t : ℕ) → Earliest f from v → from ≤ t → f t ≡ true → v ≤ t

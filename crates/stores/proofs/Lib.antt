@@ -1,2 +1,6 @@
+pub mod Moves
+pub mod Counts
 pub mod Firsts
+mod Bits
 mod BitCounts
+pub mod Held

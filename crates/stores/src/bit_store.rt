@@ -1,7 +1,7 @@
 ghost use Rattle.std.specs.Prelude.{◌≡◌, ℕ};
 ghost use Rattle.stores.specs.Sets.{no_starts};
 ghost use Rattle.stores.specs.BitRows.{starts_of, bit_rows};
-ghost use Rattle.stores.specs.Held.{rows_bounded};
+ghost use Rattle.stores.specs.Bounds.{rows_bounded};
 
 use crate::row::Row;
 use crate::store::{ROWS, Store};

@@ -1,6 +1,6 @@
 use Rattle.std.proofs.Common.{arith}
 use Rattle.stores.specs.Sets.{size_of}
-use Rattle.stores.specs.Counts.{count_most}
+use Rattle.stores.proofs.Counts.{count_most}
 use Rattle.planner.proofs.Listing.{sum_step, sizes_most}
 use Rattle.planner.proofs.cuts.count_starts.Goals as goal
 

@@ -1,6 +1,6 @@
 use Rattle.std.proofs.Common.{◌+◌, ◌*◌, ◌<◌, length, arith}
 use Rattle.stores.specs.BitRows.{bit_rows}
-use Rattle.stores.specs.Held.{rows_bounded}
+use Rattle.stores.specs.Bounds.{rows_bounded}
 use Rattle.planner.proofs.Walks.{upto_none, upto_done}
 use Rattle.planner.proofs.Listing.{count_zero, count_next, count_within, count_end, words_up, words_next}
 use Rattle.planner.proofs.cuts.list_row.Goals as goal

@@ -1,6 +1,6 @@
 use Rattle.std.proofs.Common.{◌≡◌, true, false, sym, ap, ◌∙◌}
 use Rattle.stores.specs.Sets.{Rows, with}
-use Rattle.stores.specs.Moves.{without_absent, with_without}
+use Rattle.stores.proofs.Moves.{without_absent, with_without}
 use Rattle.store_tests.proofs.any_store.out_and_back.Goals as goal
 
 pub returns-then-take_out : goal.returns-then-take_out

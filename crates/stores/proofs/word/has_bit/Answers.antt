@@ -1,4 +1,4 @@
-use Rattle.stores.specs.Bits.{bit_test}
+use Rattle.stores.proofs.Bits.{bit_test}
 use Rattle.stores.proofs.word.has_bit.Goals as goal
 
 pub returns : goal.returns

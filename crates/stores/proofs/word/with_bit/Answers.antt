@@ -1,4 +1,4 @@
-use Rattle.stores.specs.Bits.{bit_set}
+use Rattle.stores.proofs.Bits.{bit_set}
 use Rattle.stores.proofs.word.with_bit.Goals as goal
 
 pub returns : goal.returns

@@ -1,5 +1,5 @@
 use Rattle.std.proofs.Common.{arith}
-use Rattle.stores.specs.Bits.{bit_clear}
+use Rattle.stores.proofs.Bits.{bit_clear}
 use Rattle.stores.proofs.word.without_bit.Goals as goal
 
 pub returns : goal.returns

@@ -1,4 +1,4 @@
-use Rattle.stores.specs.Held.{starts_none, rows_none}
+use Rattle.stores.proofs.Held.{starts_none, rows_none}
 use Rattle.stores.proofs.bit_store.BitStore.empty.Goals as goal
 
 pub returns : goal.returns

@@ -1,5 +1,5 @@
 use Rattle.std.proofs.Common.{sym, ◌∙◌, arith}
-use Rattle.stores.specs.Held.{starts_none, rows_in, rows_past}
+use Rattle.stores.proofs.Held.{starts_none, rows_in, rows_past}
 use Rattle.stores.proofs.bit_store.BitStore.row_at.Goals as goal
 
 pub returns-then-row-lt-ROWS : goal.returns-then-row-lt-ROWS

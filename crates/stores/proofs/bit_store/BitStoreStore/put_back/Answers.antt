@@ -2,8 +2,8 @@ use Rattle.std.proofs.Common.{◌≡◌, false, sym, arith}
 use Rattle.std.proofs.lemmas.Bool.Decides.{nat_tests}
 use Rattle.stores.specs.Sets.{missing}
 use Rattle.stores.specs.BitRows.{bit_rows}
-use Rattle.stores.specs.Moves.{with_present}
-use Rattle.stores.specs.Held.{rows_in, rows_with}
+use Rattle.stores.proofs.Moves.{with_present}
+use Rattle.stores.proofs.Held.{rows_in, rows_with}
 use Rattle.stores.proofs.bit_store.BitStoreStore.put_back.Goals as goal
 
 pub returns-then-row-ge-ROWS : goal.returns-then-row-ge-ROWS

@@ -1,7 +1,7 @@
 use Rattle.std.proofs.Common.{sym, ◌∙◌, arith}
 use Rattle.stores.specs.BitRows.{bit_rows}
-use Rattle.stores.specs.Moves.{without_absent}
-use Rattle.stores.specs.Held.{rows_in, rows_past, rows_without}
+use Rattle.stores.proofs.Moves.{without_absent}
+use Rattle.stores.proofs.Held.{rows_in, rows_past, rows_without}
 use Rattle.stores.proofs.bit_store.BitStoreStore.take_out.Goals as goal
 
 pub returns-then-row-ge-ROWS : goal.returns-then-row-ge-ROWS

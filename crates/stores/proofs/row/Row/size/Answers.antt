@@ -1,7 +1,7 @@
 use Rattle.std.proofs.Common.{sym, arith}
 use Rattle.stores.specs.BitRows.{starts_of}
-use Rattle.stores.specs.Counts.{count_none}
-use Rattle.stores.specs.Held.{count_more}
+use Rattle.stores.proofs.Counts.{count_none}
+use Rattle.stores.proofs.Held.{count_more}
 use Rattle.stores.proofs.row.Row.size.Goals as goal
 
 pub loop-place-init : goal.loop-place-init

@@ -4,7 +4,7 @@ use Rattle.std.proofs.Common.{sym, ap, ◌∙◌, ⊎_elim, arith, add-suc, add-
 use Rattle.std.proofs.lemmas.Bool.{cases_Bool, cases_eq, cases_lt}
 use Rattle.stores.specs.Sets.{Rows, Bounded, without, with, missing, count, size_of}
 use Rattle.stores.specs.SetLaws.{SizeLaws}
-use Rattle.stores.specs.Moves.{without_named, without_other, with_named, with_other, without_row, with_row, missing_parts, inside_parts}
+use Rattle.stores.proofs.Moves.{without_named, without_other, with_named, with_other, without_row, with_row, missing_parts, inside_parts}
 
 pub count_same : (f g : ℕ → Bool) (n : ℕ) → ((k : ℕ) → k < n → f k ≡ g k) → count f n ≡ count g n
 unfolding count

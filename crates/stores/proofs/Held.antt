@@ -4,14 +4,13 @@ use Rattle.std.proofs.Common.{ap, ◌∙◌, ⊎_elim, arith}
 use Rattle.std.proofs.Math.Path.{fun_ext}
 use Rattle.std.proofs.lemmas.List.{get_or-set_other, get_or-set_same, get_or-replicate, get_or_past, length-replicate}
 use Rattle.std.proofs.lemmas.Bool.{cases_eq, cases_lt, eq-eqb, ne_eqb, lt-ltb, le-ltb}
-use Rattle.std.proofs.lemmas.Bool.Decides.{nat_tests}
-use Rattle.stores.specs.Sets.{Bounded, no_starts, without, with, count}
+use Rattle.stores.specs.Sets.{no_starts, without, with, count}
 use Rattle.stores.specs.Words.{bit}
 use Rattle.stores.specs.BitRows.{starts_of, no_row, bit_rows}
 use Rattle.stores.specs.declared.row.Row.{Row}
 use Rattle.stores.specs.declared.bit_store.BitStore.{BitStore}
-use Rattle.stores.specs.Counts.{count_same, count_add}
-use Rattle.stores.specs.Bits.{bit_zero}
+use Rattle.stores.proofs.Counts.{count_same, count_add}
+use Rattle.stores.proofs.Bits.{bit_zero}
 
 -- ---- one row
 
@@ -50,10 +49,6 @@ rows_in s i t l = rw (lt-ltb i 24 l)
 pub rows_past : (s : BitStore) (i t : ℕ) → 24 ≤ i → bit_rows s i t ≡ false
 unfolding bit_rows
 rows_past s i t l = rw (le-ltb i 24 l)
-
-pub rows_bounded : (s : BitStore) → Bounded (bit_rows s)
-unfolding bit_rows
-rows_bounded s i t h = (grind (arith, nat_tests), grind (arith, nat_tests))
 
 pub rows_none : (r : Row) → ((t : ℕ) → starts_of r t ≡ false) → bit_rows (record { rows = replicate 24 r }) ≡ no_starts
 unfolding bit_rows
