@@ -4,10 +4,9 @@ use Rattle.tickets.specs.Collections.{posted}
 use Rattle.tickets.specs.declared.collection.Collection.{Collection}
 use Rattle.stores.specs.Sets.{Rows}
 use Rattle.runs.specs.Supports.{setting}
-use Rattle.runs.specs.Planner.{sealed, Means}
+use Rattle.runs.specs.Planner.{Answer, sealed, Means}
 use Rattle.runs.specs.Whole.{just_sealed, longer, Reached}
 use Rattle.runs.specs.declared.call.Call.{Call}
-use Rattle.runs.specs.declared.call.Answer.{Answer}
 use Rattle.runs.proofs.Runs.{every_run}
 use Rattle.planner.specs.declared.state.Planner.{Planner}
 use Rattle.planner.specs.States.{setting_of, state_of}

@@ -8,7 +8,7 @@ use Rattle.spreads.specs.Spreads.{blank, ticket}
 use Rattle.pricing.specs.Prices.{first_starts}
 
 pub few_posted : (c : Collection) → length (posted c) ≤ 24
-few_posted c = omega (arith, length-take c.count c.tickets, c.few)
+few_posted c = c.few
 
 -- a write into the first of the zeros after xs
 write_next : (xs : List ℕ) (n z : ℕ) → set (xs ++ replicate (suc n) 0) (length xs) z ≡ (xs ++ z ∷ []) ++ replicate n 0
