@@ -26,11 +26,16 @@ impl BitStore {
     fn row_at(&self, row: usize) -> Row
         ensures { (t : ℕ) → starts_of result t ≡ bit_rows self.now row t }
     {
-        if row < ROWS {
-            self.rows[row]
-        } else {
-            Row::empty()
-        }
+        self.rows.get(row).copied().unwrap_or(Row::empty())
+    }
+}
+
+impl Default for BitStore {
+    ghost is_default = { λ s. bit_rows s ≡ no_starts };
+
+    /// Every row empty.
+    fn default() -> BitStore {
+        BitStore::empty()
     }
 }
 
@@ -52,16 +57,10 @@ impl Store for BitStore {
     }
 
     fn take_out(&mut self, row: usize, start: usize) -> bool {
-        if row >= ROWS {
-            return false;
-        }
-        self.rows[row].take_out(start)
+        row < ROWS && self.rows[row].take_out(start)
     }
 
     fn put_back(&mut self, row: usize, start: usize) -> bool {
-        if row >= ROWS {
-            return false;
-        }
-        self.rows[row].put_back(start)
+        row < ROWS && self.rows[row].put_back(start)
     }
 }
