@@ -1,4 +1,4 @@
-use Rattle.std.proofs.Common.{◌≡◌, ◌∙◌, rules, tests, arith}
+use Rattle.std.proofs.Common.{◌≡◌, ◌∙◌, refl, rules, tests, arith}
 use Rattle.std.proofs.iter.runs.Made.{chains}
 use Rattle.std.proofs.lemmas.Iterator.{YieldsList-from_slice}
 use Rattle.std.proofs.lemmas.Iterator.Adapters.{fits_from_length, at_most_from_yields_List}
@@ -10,7 +10,7 @@ use Rattle.stores.proofs.row.Row.size.Goals as goal
 
 pub sum-requires-clause-fits : goal.sum-requires-clause-fits
 sum-requires-clause-fits c =
-    fits_from_length _ _ 4 _ (at_most_from_yields_List (YieldsList-from_slice c.args.self.now.words cc) (grind arith)) c.map.ensures.closure (omega arith)
+    fits_from_length _ _ 4 _ (at_most_from_yields_List (YieldsList-from_slice c.map.result.iter.rest.now refl) (grind arith)) c.map.ensures.closure (omega arith)
     (λ x r q k. search (rules, tests))
 
 pub returns : goal.returns
