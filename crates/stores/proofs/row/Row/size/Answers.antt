@@ -1,5 +1,4 @@
 use Rattle.std.proofs.Common.{◌≡◌, ◌∙◌, refl, rules, tests, arith}
-use Rattle.std.proofs.iter.runs.Made.{chains}
 use Rattle.std.proofs.lemmas.Iterator.{YieldsList-from_slice}
 use Rattle.std.proofs.lemmas.Iterator.Adapters.{fits_from_length, at_most_from_yields_List}
 use Rattle.std.specs.List.{sum_by}
@@ -15,5 +14,5 @@ sum-requires-clause-fits c =
 
 pub returns : goal.returns
 returns c =
-    let all : c.sum.result ≡ sum_by (λ w. count (bit w) 64) c.args.self.now.words = search (rules, chains) in
+    let all : c.sum.result ≡ sum_by (λ w. count (bit w) 64) c.args.self.now.words = search rules in
     all ∙ size_words c.args.self.now (omega arith)
