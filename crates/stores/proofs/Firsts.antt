@@ -1,6 +1,6 @@
 -- The first start at or after a given one, and what is answered out of range. Assumes nothing.
-use Rattle.std.proofs.Common.{◌≡◌, ℕ, zero, suc, ◌+◌, ◌-◌, ◌<◌, ◌≤◌, Bool, true, false, Some, None, Option, refl, ap, ◌∙◌, ⊎_elim, arith}
-use Rattle.std.proofs.lemmas.Bool.{cases_Bool, cases_lt, both_ways}
+use Rattle.std.proofs.Common.{◌≡◌, ℕ, zero, suc, ◌+◌, ◌-◌, ◌≤◌, Bool, true, false, Some, None, Option, refl, ap, ◌∙◌, ⊎_elim, arith}
+use Rattle.std.proofs.lemmas.Bool.{cases_Bool, cases_eq, cases_lt, both_ways}
 use Rattle.std.proofs.lemmas.Bool.Decides.{nat_tests}
 use Rattle.stores.specs.Sets.{Rows, inside, Bounded, Earliest, First}
 use Rattle.stores.specs.SetLaws.{AfterLaws, RangeLaws, SetLaws}
@@ -9,18 +9,15 @@ use Rattle.stores.proofs.Counts.{count_none, sizes}
 
 -- the earliest start is not after any other at or after `from`
 pub earliest_least : (f : ℕ → Bool) (from v t : ℕ) → Earliest f from v → from ≤ t → f t ≡ true → v ≤ t
-earliest_least f from v t h l on =
-    ⊎_elim (λ (m : t < v). absurd (both_ways (f t) (h.gap t l m) on)) (λ (m : v ≤ t). m) (cases_lt t v)
+earliest_least f from v t h l on = grind (arith, cases_lt t v, h.gap t)
 
 -- the others come after it
 pub earliest_next : (f : ℕ → Bool) (from v t : ℕ) → Earliest f from v → from ≤ t → f t ≡ true → (t ≡ v → ⊥) → v + 1 ≤ t
-earliest_next f from v t h l on ne = let le = earliest_least f from v t h l on in grind arith
+earliest_next f from v t h l on ne = let le = earliest_least f from v t h l on in omega arith
 
 earliest_same : (f : ℕ → Bool) (from v w : ℕ) → Earliest f from v → Earliest f from w → v ≡ w
 earliest_same f from v w p q =
-    let a = earliest_least f from v w p q.reached q.held in
-    let b = earliest_least f from w v q p.reached p.held in
-    omega arith
+    omega (arith, earliest_least f from v w p q.reached q.held, earliest_least f from w v q p.reached p.held)
 
 pub first_same : (f : ℕ → Bool) (from : ℕ) (a b : Option ℕ) → First f from a → First f from b → a ≡ b
 first_same f from None None p q = refl
@@ -40,7 +37,7 @@ search_up f from (suc n) on =
       record {
         reached = let r = h.reached in omega arith;
         held = h.held;
-        gap = λ t p q. ⊎_elim (λ (m : from < t). h.gap t (omega arith) q) (λ (m : t ≤ from). let z : t ≡ from = omega arith in ap f z ∙ e) (cases_lt from t);
+        gap = λ t p q. grind (arith, cases_eq t from, h.gap t);
       },
       omega arith,
     ))

@@ -26,11 +26,16 @@ impl BitStore {
     fn row_at(&self, row: usize) -> Row
         ensures { (t : ℕ) → starts_of result t ≡ bit_rows self.now row t }
     {
-        if row < ROWS {
-            self.rows[row]
-        } else {
-            Row::empty()
-        }
+        self.rows.get(row).copied().unwrap_or(Row::empty())
+    }
+}
+
+impl Default for BitStore {
+    ghost is_default = { λ s. bit_rows s ≡ no_starts };
+
+    /// Every row empty.
+    fn default() -> BitStore {
+        BitStore::empty()
     }
 }
 
@@ -51,17 +56,12 @@ impl Store for BitStore {
         self.row_at(row).after(start)
     }
 
+    // `get_mut` says nothing of what the rows are afterwards, so the row is tested and indexed.
     fn take_out(&mut self, row: usize, start: usize) -> bool {
-        if row >= ROWS {
-            return false;
-        }
-        self.rows[row].take_out(start)
+        row < ROWS && self.rows[row].take_out(start)
     }
 
     fn put_back(&mut self, row: usize, start: usize) -> bool {
-        if row >= ROWS {
-            return false;
-        }
-        self.rows[row].put_back(start)
+        row < ROWS && self.rows[row].put_back(start)
     }
 }

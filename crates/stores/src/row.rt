@@ -26,31 +26,26 @@ impl Row {
     pub(crate) fn holds(&self, start: usize) -> bool
         ensures { result ≡ starts_of self.now start }
     {
-        start < STARTS && has_bit(self.words[start / 64], start % 64)
+        start < STARTS && has_bit(self.words[start / 64], start)
     }
 
     /// How many starts are in.
     pub(crate) fn size(&self) -> usize
         ensures { result ≡ size_of (starts_of self.now) }
     {
-        let mut size = 0;
-        for place in 0..WORDS {
-            size += count_bits(self.words[place]);
-        }
-        size
+        self.words.iter().map(|word| count_bits(*word)).sum()
     }
 
     /// The first start at or after the given one.
     pub(crate) fn after(&self, start: usize) -> Option<usize>
         ensures { First (starts_of self.now) start result }
     {
-        let mut place = start / 64;
+        // Places are counted, since the answer is made of one, and only the first word is read from its middle.
         let mut from = start % 64;
-        while place < WORDS {
+        for place in start / 64..WORDS {
             if let Some(k) = first_bit(self.words[place], from) {
                 return Some(64 * place + k);
             }
-            place += 1;
             from = 0;
         }
         None
@@ -64,7 +59,7 @@ impl Row {
         if !self.holds(start) {
             return false;
         }
-        self.words[start / 64] = without_bit(self.words[start / 64], start % 64);
+        self.words[start / 64] = without_bit(self.words[start / 64], start);
         true
     }
 
@@ -76,7 +71,7 @@ impl Row {
         if start >= STARTS || self.holds(start) {
             return false;
         }
-        self.words[start / 64] = with_bit(self.words[start / 64], start % 64);
+        self.words[start / 64] = with_bit(self.words[start / 64], start);
         true
     }
 }

@@ -1,29 +1,26 @@
-ghost use Rattle.std.specs.Prelude.{◌≡◌, ℕ, ◌<◌, ◌≤◌, not, ◌&&◌, ◌||◌, ◌==◌};
+ghost use Rattle.std.specs.Prelude.{◌≡◌, ℕ, ◌%◌, ◌<◌, ◌≤◌, not, ◌&&◌, ◌||◌, ◌==◌};
 ghost use Rattle.stores.specs.Sets.{count};
 ghost use Rattle.stores.specs.Words.{bit, FirstBit};
 
-/// Whether bit `k` is set.
-pub(crate) fn has_bit(word: u64, k: usize) -> bool
-    requires { k < 64 }
-    ensures { result ≡ bit word k }
+/// Whether the start's bit is set, which is bit `start % 64`.
+pub(crate) fn has_bit(word: u64, start: usize) -> bool
+    ensures { result ≡ bit word (start % 64) }
 {
-    (word >> k) & 1 == 1
+    (word >> (start % 64)) & 1 == 1
 }
 
-/// The word with bit `k` set.
-pub(crate) fn with_bit(word: u64, k: usize) -> u64
-    requires { k < 64 }
-    ensures { (j : ℕ) → bit result j ≡ (bit word j || j == k) }
+/// The word with the start's bit set.
+pub(crate) fn with_bit(word: u64, start: usize) -> u64
+    ensures { (k : ℕ) → bit result k ≡ (bit word k || k == start % 64) }
 {
-    word | (1 << k)
+    word | (1 << (start % 64))
 }
 
-/// The word with bit `k` not set.
-pub(crate) fn without_bit(word: u64, k: usize) -> u64
-    requires { k < 64 }
-    ensures { (j : ℕ) → bit result j ≡ (bit word j && not (j == k)) }
+/// The word with the start's bit not set.
+pub(crate) fn without_bit(word: u64, start: usize) -> u64
+    ensures { (k : ℕ) → bit result k ≡ (bit word k && not (k == start % 64)) }
 {
-    word & !(1 << k)
+    word & !(1 << (start % 64))
 }
 
 /// How many bits are set.
@@ -39,9 +36,8 @@ pub(crate) fn first_bit(word: u64, from: usize) -> Option<usize>
     requires { from < 64 }
     ensures { FirstBit (bit word) from result }
 {
-    let rest = word >> from;
-    if rest == 0 {
-        return None;
+    match word >> from {
+        0 => None,
+        rest => Some(from + rest.trailing_zeros() as usize),
     }
-    Some(from + rest.trailing_zeros() as usize)
 }

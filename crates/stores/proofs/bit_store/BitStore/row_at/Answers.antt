@@ -1,10 +1,10 @@
-use Rattle.std.proofs.Common.{sym, ◌∙◌, arith}
-use Rattle.stores.proofs.Held.{starts_none, rows_in, rows_past}
+use Rattle.std.proofs.Common.{◌≡◌, rules, arith, slice_index_or}
+use Rattle.std.proofs.lemmas.Option.{unwrap_or-slice_get}
+use Rattle.stores.proofs.Held.{row_held}
 use Rattle.stores.proofs.bit_store.BitStore.row_at.Goals as goal
 
-pub returns-then-row-lt-ROWS : goal.returns-then-row-lt-ROWS
-returns-then-row-lt-ROWS c t = sym (rows_in c.args.self.now c.args.row t (omega arith))
-
-pub returns-else-row-lt-ROWS : goal.returns-else-row-lt-ROWS
-returns-else-row-lt-ROWS c t =
-    starts_none c.empty.result c.empty.ensures t ∙ sym (rows_past c.args.self.now c.args.row t (omega arith))
+pub returns : goal.returns
+returns c t =
+    let s = c.args.self.now in
+    let found : c.unwrap_or.result ≡ slice_index_or s.rows c.args.row c.empty.result = search (rules, unwrap_or-slice_get) in
+    rw found (row_held s c.empty.result (omega arith) c.empty.ensures c.args.row t)
