@@ -4,7 +4,7 @@ use Rattle.std.proofs.lemmas.List.Edits.{Swapped}
 use Rattle.std.proofs.lemmas.List.{length-take-le, length-set, get_or-take, get_or-set_other}
 use Rattle.std.proofs.lemmas.Bool.{cases_eq}
 use Rattle.heap.specs.Steps.{Higher, FirstChild, Lower}
-use Rattle.heap.specs.Waiting.{by_key, Tree}
+use Rattle.heap.specs.Trees.{by_key, Tree}
 use Rattle.heap.proofs.Trees.{Lawful, Loose, Under, Over, fixed, not_itself, up_loose, up_under, down_loose, down_over}
 
 -- the laws of the keys hold of the entries

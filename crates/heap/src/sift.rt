@@ -1,7 +1,7 @@
-ghost use Rattle.std.specs.Prelude.{◌≡◌, ◌-◌, ◌<◌, length, take, slice_index_or, slice_set};
+ghost use Rattle.std.specs.Prelude.{◌≡◌, ◌-◌, ◌<◌, ◌∷◌, length, take, slice_index_or, slice_set};
 ghost use Rattle.std.specs.List.Sorted.{IsPermutation};
 ghost use Rattle.heap.specs.Steps.{Higher, FirstChild, Lower};
-ghost use Rattle.heap.specs.Waiting.{by_key, Tree};
+ghost use Rattle.heap.specs.Trees.{by_key, Tree, Front};
 
 use crate::entry::{Entry, Order};
 
@@ -72,7 +72,7 @@ fn lower<E: Entry>(slots: &[E], at: usize) -> Option<usize>
 }
 
 /// Moves the first entry down to its place; with another first entry it is a tree.
-pub(crate) fn sift_down<E: Entry>(slots: &mut [E])
+fn sift_down<E: Entry>(slots: &mut [E])
     requires { (x : E) × Tree (by_key E.Key.Order.before E.keyed) (slice_set slots.old 0 x) }
     ensures shuffled { IsPermutation slots.old slots.new }
     ensures tree { Tree (by_key E.Key.Order.before E.keyed) slots.new }
@@ -82,4 +82,19 @@ pub(crate) fn sift_down<E: Entry>(slots: &mut [E])
         slots.swap(child, at);
         at = child;
     }
+}
+
+/// Hands out the first entry of a tree, and leaves a tree of the others in front of the last place.
+pub(crate) fn take_first<E: Entry>(slots: &mut [E]) -> E
+    requires some { 0 < length slots.old }
+    requires tree { Tree (by_key E.Key.Order.before E.keyed) slots.old }
+    ensures front { Front (by_key E.Key.Order.before E.keyed) slots.old result }
+    ensures others { IsPermutation slots.old (result ∷ take (length slots.old - 1) slots.new) }
+    ensures tree { Tree (by_key E.Key.Order.before E.keyed) (take (length slots.old - 1) slots.new) }
+{
+    let first = slots[0];
+    let last = slots.len() - 1;
+    slots[0] = slots[last];
+    sift_down(&mut slots[0..last]);
+    first
 }

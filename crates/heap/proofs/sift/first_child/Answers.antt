@@ -1,5 +1,5 @@
 use Rattle.std.proofs.Common.{arith}
-use Rattle.heap.specs.Waiting.{by_key}
+use Rattle.heap.specs.Trees.{by_key}
 use Rattle.heap.proofs.Sifting.{lawful, left_first}
 use Rattle.heap.proofs.sift.first_child.Goals.{else-right-slots-via-then-right-slots+else-is_before_at, else-right-slots-via-else-right-slots}
 use Rattle.heap.proofs.sift.first_child.Goals as goal

@@ -1,5 +1,5 @@
 use Rattle.std.proofs.lemmas.List.Sorted.{IsPermutation-refl, IsPermutation-trans}
-use Rattle.heap.specs.Waiting.{by_key}
+use Rattle.heap.specs.Trees.{by_key}
 use Rattle.heap.proofs.Sifting.{lawful, first_sinks, sinks, sunk}
 use Rattle.heap.proofs.sift.sift_down.Goals as goal
 

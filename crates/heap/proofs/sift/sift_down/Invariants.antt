@@ -1,6 +1,6 @@
 use Rattle.std.proofs.Common.{◌-◌, length}
 use Rattle.std.specs.List.Sorted.{IsPermutation}
-use Rattle.heap.specs.Waiting.{by_key}
+use Rattle.heap.specs.Trees.{by_key}
 use Rattle.heap.proofs.Sifting.{Sinking}
 use Rattle.heap.proofs.sift.sift_down.Given as goal
 

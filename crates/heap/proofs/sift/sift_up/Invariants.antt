@@ -1,5 +1,5 @@
 use Rattle.std.specs.List.Sorted.{IsPermutation}
-use Rattle.heap.specs.Waiting.{by_key}
+use Rattle.heap.specs.Trees.{by_key}
 use Rattle.heap.proofs.Sifting.{Rising}
 use Rattle.heap.proofs.sift.sift_up.Given as goal
 
