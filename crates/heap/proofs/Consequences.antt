@@ -1,13 +1,17 @@
 -- What a heap's users draw from its contracts. Assumes nothing.
-use Rattle.std.proofs.Common.{◌≡◌, ℕ, ◌<◌, Bool, false, List, [], ◌∷◌, length, take, Some, None, Ok, Err, Option, Result, sym, ap, ◌∙◌, subst, arith}
+use Rattle.std.proofs.Common.{◌≡◌, ℕ, ◌<◌, Bool, false, true≢false, Ordering, Less, Equal, Greater, refl, List, [], ◌∷◌, length, take, Some, None, Ok, Err, Option, Result, sym, ap, ◌∙◌, subst, arith}
 use Rattle.std.specs.List.{ContainsAt, AllByRecursion}
+use Rattle.std.specs.Cmp.{IsTotalOrder}
+use Rattle.std.specs.Ordering.{is_lt, is_gt, ordering_reverse}
 use Rattle.std.specs.List.Sorted.{IsPermutation}
 use Rattle.std.proofs.ByRecursion.{all-has, All-take}
 use Rattle.std.proofs.lemmas.List.{length-take-le}
 use Rattle.heap.specs.declared.entry.Entry.{Ghosts as EntryGhosts}
-use Rattle.heap.specs.declared.entry.Order.{Ghosts as OrderGhosts}
+use Rattle.std.specs.declared.cmp.Ord.{Ghosts as OrdGhosts}
+use Rattle.std.specs.declared.cmp.PartialEq.{Ghosts as EqGhosts}
+use Rattle.std.specs.declared.cmp.PartialOrd.{Ghosts as PartialGhosts}
 use Rattle.heap.specs.declared.heap.Heap.{Heap}
-use Rattle.heap.specs.Trees.{by_key, Front}
+use Rattle.heap.specs.Trees.{below, by_key, Front}
 use Rattle.heap.specs.Waiting.{waiting, room, Pushed, Peeked, Popped}
 
 -- what holds of all that wait holds of the one in front
@@ -23,19 +27,30 @@ pub least_key : {X K : Type 0} (before : K → K → Bool) (keyed : X → K) →
 least_key before keyed apart xs x y f has least =
     apart (keyed y) (keyed x) (all-has (λ z. by_key before keyed z x ≡ false) xs y f.least has) (of_front (by_key before keyed) (λ z. by_key before keyed z y ≡ false) xs x f least)
 
-module _ {X K : Type 0} {kind : EntryGhosts X K} {order : OrderGhosts K} where
+-- the keys of a heap are such keys
+pub one_key : {K : Type 0} (cmp : K → K → Ordering) → IsTotalOrder cmp → ((a b : K) → cmp a b ≡ Equal → a ≡ b) → (a b : K) → below cmp a b ≡ false → below cmp b a ≡ false → a ≡ b
+one_key cmp total apart a b h k = apart a b (level (cmp a b) (cmp b a) (total.antisymm a b) h k)
+  where
+    level : (r s : Ordering) → r ≡ ordering_reverse s → is_lt r ≡ false → is_lt s ≡ false → r ≡ Equal
+    level Less s e h k = absurd (true≢false h)
+    level Equal s e h k = refl
+    level Greater Less e h k = absurd (true≢false k)
+    level Greater Equal e h k = e
+    level Greater Greater e h k = absurd (true≢false (ap is_gt e))
+
+module _ {X K : Type 0} {kind : EntryGhosts X K} {order : OrdGhosts K} {equal : EqGhosts K} {partly : PartialGhosts K} where
   -- an entry that there is room for is taken
-  pub taken : (h : Heap X K kind order) (e : X) (r : Result Unit X) (k : Heap X K kind order) → length (waiting h) < room h → Pushed h e r k → IsPermutation (e ∷ waiting h) (waiting k)
+  pub taken : (h : Heap X K kind order equal partly) (e : X) (r : Result Unit X) (k : Heap X K kind order equal partly) → length (waiting h) < room h → Pushed h e r k → IsPermutation (e ∷ waiting h) (waiting k)
   taken h e (Ok _) k space p = p
   taken h e (Err x) k space p = absurd (omega (arith, p.1))
 
   -- how many wait, by the heap's own count
-  pub count : (h : Heap X K kind order) → length (waiting h) ≡ h.len
+  pub count : (h : Heap X K kind order equal partly) → length (waiting h) ≡ h.len
   count h = length-take-le h.len h.slots.now h.fits
 
   module _ (before : X → X → Bool) where
     -- pop hands out what peek shows
-    pub as_peeked : (h k : Heap X K kind order) (x : X) (r : Option X) → Peeked before h (Some x) → Popped before h r k → (r ≡ Some x) × IsPermutation (waiting h) (x ∷ waiting k)
+    pub as_peeked : (h k : Heap X K kind order equal partly) (x : X) (r : Option X) → Peeked before h (Some x) → Popped before h r k → (r ≡ Some x) × IsPermutation (waiting h) (x ∷ waiting k)
     as_peeked h k x None p q = let e : take 1 (waiting h) ≡ [] = ap (take 1) q.0 in let z : ◌≡◌ {A = ℕ} 0 1 = ap length (sym e ∙ p.first) in absurd (omega arith)
     as_peeked h k x (Some y) p q =
         let e : y ≡ x = same_front before (waiting h) x y p q.0 in

@@ -6,7 +6,9 @@ use Rattle.std.proofs.ByRecursion.{All-from_get_or}
 use Rattle.std.proofs.lemmas.List.{length_push, length-set, length-take-le, get_or-take, take_at, take_more_set}
 use Rattle.std.proofs.lemmas.List.Sorted.{length_permutation, IsPermutation-cons, IsPermutation-refl, IsPermutation-sym, IsPermutation-to_front, IsPermutation-trans}
 use Rattle.heap.specs.declared.entry.Entry.{Ghosts as EntryGhosts}
-use Rattle.heap.specs.declared.entry.Order.{Ghosts as OrderGhosts}
+use Rattle.std.specs.declared.cmp.Ord.{Ghosts as OrdGhosts}
+use Rattle.std.specs.declared.cmp.PartialEq.{Ghosts as EqGhosts}
+use Rattle.std.specs.declared.cmp.PartialOrd.{Ghosts as PartialGhosts}
 use Rattle.heap.specs.declared.heap.Heap.{Heap}
 use Rattle.heap.specs.Trees.{Tree, Front}
 use Rattle.heap.specs.Waiting.{waiting, Peeked}
@@ -103,7 +105,7 @@ module _ {X : Type 0} where
     }
 
     -- a look at the first of those that wait
-    pub looked : {K : Type 0} {kind : EntryGhosts X K} {order : OrderGhosts K} → Lawful before
-        → (h : Heap X K kind order) (xs : List X) → waiting h ≡ xs → Tree before xs → Peeked before h (slice_get xs 0)
+    pub looked : {K : Type 0} {kind : EntryGhosts X K} {order : OrdGhosts K} {equal : EqGhosts K} {partly : PartialGhosts K} → Lawful before
+        → (h : Heap X K kind order equal partly) (xs : List X) → waiting h ≡ xs → Tree before xs → Peeked before h (slice_get xs 0)
     looked law h [] e tree = e
     looked law h (x ∷ xs) e tree = subst (λ (ws : List X). Front before ws x) (sym e) (front law (x ∷ xs) x (omega arith) refl tree)

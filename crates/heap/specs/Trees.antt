@@ -1,6 +1,12 @@
 -- Entries by their keys, and trees of them. Assumes nothing.
 use Rattle.std.specs.Prelude.{◌≡◌, ℕ, ◌-◌, ◌/◌, ◌<◌, Bool, false, List, [], ◌∷◌, length, take, slice_index_or}
 use Rattle.std.specs.List.{AllByRecursion}
+use Rattle.std.specs.Ordering.{is_lt}
+use Rattle.std.specs.declared.cmp.Ordering.{Ordering}
+
+-- a comes before b
+abbrev pub below : {K : Type 0} → (K → K → Ordering) → K → K → Bool
+below cmp a b = is_lt (cmp a b)
 
 -- x is before y, by their keys
 abbrev pub by_key : {X K : Type 0} → (K → K → Bool) → (X → K) → X → X → Bool

@@ -1,5 +1,5 @@
 ghost use Rattle.std.specs.Prelude.{◌≡◌, ◌≤◌, ◌==◌, [], length, take};
-ghost use Rattle.heap.specs.Trees.{by_key, Tree};
+ghost use Rattle.heap.specs.Trees.{below, by_key, Tree};
 
 use crate::entry::Entry;
 use crate::sift::{sift_up, take_first};
@@ -11,7 +11,7 @@ pub struct Heap<'a, E: Entry> {
     slots: &'a mut [E],
     len: usize,
     pub ghost fits: { len ≤ length slots.now },
-    pub ghost tree: { Tree (by_key E.Key.Order.before E.keyed) (take len slots.now) },
+    pub ghost tree: { Tree (by_key (below E.Key.cmp) E.keyed) (take len slots.now) },
 }
 
 impl<'a, E: Entry> Heap<'a, E> {
@@ -64,7 +64,7 @@ impl<'a, E: Entry> Heap<'a, E> {
 
     /// An entry with the least key that waits, which goes on waiting.
     pub fn peek(&self) -> Option<E>
-        ensures { Peeked (by_key E.Key.Order.before E.keyed) self.now result }
+        ensures { Peeked (by_key (below E.Key.cmp) E.keyed) self.now result }
     {
         self.waiting().first().copied()
     }
@@ -72,7 +72,7 @@ impl<'a, E: Entry> Heap<'a, E> {
     /// Hands out an entry with the least key that waits.
     pub fn pop(&mut self) -> Option<E>
         ensures slots { SameSlots self.old self.new }
-        ensures popped { Popped (by_key E.Key.Order.before E.keyed) self.old result self.new }
+        ensures popped { Popped (by_key (below E.Key.cmp) E.keyed) self.old result self.new }
     {
         if self.len == 0 {
             return None;

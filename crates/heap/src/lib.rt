@@ -10,5 +10,5 @@ pub mod entry;
 pub mod heap;
 mod sift;
 
-pub use entry::{Entry, Order};
+pub use entry::Entry;
 pub use heap::Heap;
