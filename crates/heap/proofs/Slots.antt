@@ -72,19 +72,13 @@ module _ {X : Type 0} where
 
   module _ (before : X → X → Bool) where
     -- fewer entries of a tree
-    pub tree_front : (xs : List X) (m : ℕ) → m ≤ length xs → Tree before xs → Tree before (take m xs)
+    tree_front : (xs : List X) (m : ℕ) → m ≤ length xs → Tree before xs → Tree before (take m xs)
     tree_front xs m fits tree d p i h =
         let short : length (take m xs) ≡ m = length-take-le m xs fits in
         (λ t. before (same d i (omega arith) t) (same d p (omega arith) t)) ∙ tree d p i (h.0, omega arith, h.2)
       where
         same : (d : X) (i : ℕ) → i < m → get_or (take m xs) i d ≡ get_or xs i d
         same d i l = get_or-take m xs i d l
-
-    -- what is sifted up is a tree but for the last
-    pub but_last : (xs w : List X) (e : X) → w ≡ xs ++ e ∷ [] → Tree before xs → Tree before (take (length w - 1) w)
-    but_last xs w e is tree =
-        let cut : take (length w - 1) w ≡ xs = ap (take (length w - 1)) is ∙ take_at xs (e ∷ []) (length w - 1) (omega (arith, ap length is, length_push xs e)) in
-        subst (Tree before) (sym cut) tree
 
     -- what is sifted down is a tree but for the first
     pub but_first : (xs w : List X) (a z : X) → 0 < length xs → a ≡ get_or xs 0 a → w ≡ take (length xs - 1 - 0) (set xs 0 z) → Tree before xs → Tree before (set w 0 a)

@@ -4,10 +4,11 @@ ghost use Rattle.heap.specs.Trees.{below, by_key, Tree};
 use crate::entry::Entry;
 use crate::sift::{sift_up, take_first};
 
-/// A heap over lent slots.
+/// A heap over lent slots: what waits has room there, and is a tree.
 #[derive(Drop)]
 pub struct Heap<'a, E: Entry> {
-    /// The entries that wait are the first `len`; what stands after them has no meaning.
+    /// The entries that wait are the first `len`; what stands after them has no meaning. A heap has no memory of its
+    /// own, so that it keeps a count beside slots that are lent, and no `Vec`.
     slots: &'a mut [E],
     len: usize,
     pub ghost fits: { len ≤ length slots.now },

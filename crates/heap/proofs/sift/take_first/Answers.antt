@@ -17,7 +17,7 @@ returns g c =
     let z = c.index-slots-last in
     let t = c.sift_down in
     record {
-      front = front (by_key (below g.E.Key.Ord.cmp) g.E.Entry.keyed) law xs a.result c.requires.some a.is c.requires.tree;
+      front = front _ law xs a.result c.requires.some a.is c.requires.tree;
       others = taken_shuffled xs a.result z.result c.requires.some a.is z.is _ refl t.new.slots _ t.ensures.shuffled;
       tree = tree_of (by_key (below g.E.Key.Ord.cmp) g.E.Entry.keyed) _ t.new.slots _ (length xs - 1) refl (taken_long xs a.result z.result c.requires.some a.is z.is _ refl t.new.slots t.ensures.shuffled) t.ensures.tree;
     }
