@@ -7,8 +7,8 @@ use crate::sift::{sift_up, take_first};
 /// A heap over lent slots: what waits has room there, and is a tree.
 #[derive(Drop)]
 pub struct Heap<'a, E: Entry> {
-    /// The entries that wait are the first `len`; what stands after them has no meaning. A heap has no memory of its
-    /// own, so that it keeps a count beside slots that are lent, and no `Vec`.
+    /// The entries that wait are the first `len`; what stands after them has no meaning. The slots are the caller's own
+    /// (`lent`, `lender` of `new`), and no vector can be laid over those: so a count stands beside them.
     slots: &'a mut [E],
     len: usize,
     pub ghost fits: { len ≤ length slots.now },
