@@ -1,35 +1,24 @@
-use Rattle.std.proofs.Common.{◌≡◌, ◌≤◌, length, refl, ap, arith}
-use Rattle.std.specs.List.{AllByRecursion}
+use Rattle.std.proofs.Common.{rules, ◌≡◌, ℕ, nat_lt, Some, None, Option, sym, ◌∙◌, subst, arith}
 use Rattle.heap.specs.Waiting.{waiting}
 use Rattle.heap.proofs.Consequences.{as_peeked}
-use Rattle.pricing.specs.declared.step.State.{State}
+use Rattle.pricing.specs.declared.step.Event.{Event}
 use Rattle.pricing.specs.Keys.{sooner}
-use Rattle.pricing.specs.Steps.{busy, end}
-use Rattle.pricing.proofs.Queues.{later, all_none}
-use Rattle.pricing.proofs.events.next_event.Goals.{in-Some+else-at-end, in_default}
+use Rattle.pricing.specs.Steps.{Next}
+use Rattle.pricing.proofs.Queues.{is_released, is_done}
 use Rattle.pricing.proofs.events.next_event.Goals as goal
 
-pub returns-then-at-end : goal.returns-then-at-end
-returns-then-at-end c =
-    let C = waiting c.args.coming.now in
+pub returns-then-is_none_or-clause-next : goal.returns-then-is_none_or-clause-next
+returns-then-is_none_or-clause-next c =
     let x = c.in-Some.first in
-    record {
-      sound = c.pop.ensures.sound;
-      next = (x, refl, refl, omega (arith, c.if-at-end.true, c.done_at-end.ensures), later C x x.slot c.in-Some.ensures (omega arith), (as_peeked sooner c.args.coming.now _ x c.pop.result c.in-Some.ensures c.pop.ensures.popped).1, omega arith);
-    }
+    let tells : (e : Event × ℕ) → c.completion-completion.result ≡ Some e → c.is_none_or.result ≡ nat_lt c.from-at.result e.1 = λ e h. search rules in
+    is_released c.args.left.now _ x c.in-Some.ensures c.from-at.result (sym c.from-at.ensures) c.is_none_or.result c.args.state _ c.from.result (sym c.from.ensures) c.if-is_none_or.true
+    (λ e h. tells e (c.completion-completion.ensures ∙ h)) (as_peeked sooner c.args.coming.now _ x c.pop.result c.in-Some.ensures c.pop.ensures.popped).1 (omega arith)
 
-pub returns-in-Idle : goal.returns-in-Idle
-returns-in-Idle c =
+pub returns-else-is_none_or-clause-next : goal.returns-else-is_none_or-clause-next
+returns-else-is_none_or-clause-next c =
     let C = waiting c.args.coming.now in
-    let s = c.in-Idle.is in
-    let e : end c.args.state c.args.left.now ≡ 65535 = ap (λ (v : State). end v c.args.left.now) s in
-    let z : length C ≡ 0 = elim c.match-peek.branch [ in-Some+else-at-end w ↦ absurd (omega (arith, w.if-at-end.false, c.done_at-end.ensures)) | in_default w ↦ ap length w.in_default.ensures ] in
-    record { sound = c.requires.sound; next = (ap busy s, z) }
-
-pub returns-in-Playing : goal.returns-in-Playing
-returns-in-Playing c =
-    let C = waiting c.args.coming.now in
-    let s = c.in-Playing.is in
-    let t = c.done_at-end.result in
-    let z : AllByRecursion (λ y. t ≤ y.slot) C = elim c.match-peek.branch [ in-Some+else-at-end w ↦ later C w.in-Some.first t w.in-Some.ensures (omega (arith, w.if-at-end.false)) | in_default w ↦ all_none (λ y. t ≤ y.slot) C w.in_default.ensures ] in
-    record { sound = c.requires.sound; next = (ap busy s, c.done_at-end.ensures, z, refl) }
+    let some : c.completion-completion.result ≡ None → ⊥ = search rules in
+    let tells : (e : Event × ℕ) → c.completion-completion.result ≡ Some e → c.is_none_or.result ≡ nat_lt c.from-at.result e.1 = λ e h. search rules in
+    subst (λ (r : Option (Event × ℕ)). Next c.args.state c.args.left.now C C r) (sym c.completion-completion.ensures)
+    (is_done c.args.left.now C c.in-Some.first c.in-Some.ensures c.from-at.result (sym c.from-at.ensures) c.is_none_or.result c.args.state c.if-is_none_or.false (λ h. some (c.completion-completion.ensures ∙ h))
+    (λ e h. tells e (c.completion-completion.ensures ∙ h)))
