@@ -1,8 +1,6 @@
 -- What a heap's users draw from its contracts. Assumes nothing.
-use Rattle.std.proofs.Common.{◌≡◌, ℕ, ◌<◌, Bool, false, true≢false, Ordering, Less, Equal, Greater, refl, List, [], ◌∷◌, length, take, Some, None, Ok, Err, Option, Result, sym, ap, ◌∙◌, subst, arith}
+use Rattle.std.proofs.Common.{◌≡◌, ℕ, ◌<◌, Bool, false, List, [], ◌∷◌, length, take, Some, None, Ok, Err, Option, Result, sym, ap, ◌∙◌, subst, arith}
 use Rattle.std.specs.List.{ContainsAt, AllByRecursion}
-use Rattle.std.specs.Cmp.{IsTotalOrder}
-use Rattle.std.specs.Ordering.{is_lt, is_gt, ordering_reverse}
 use Rattle.std.specs.List.Sorted.{IsPermutation}
 use Rattle.std.proofs.ByRecursion.{all-has, All-take}
 use Rattle.std.proofs.lemmas.List.{length-take-le}
@@ -11,7 +9,7 @@ use Rattle.std.specs.declared.cmp.Ord.{Ghosts as OrdGhosts}
 use Rattle.std.specs.declared.cmp.PartialEq.{Ghosts as EqGhosts}
 use Rattle.std.specs.declared.cmp.PartialOrd.{Ghosts as PartialGhosts}
 use Rattle.heap.specs.declared.heap.Heap.{Heap}
-use Rattle.heap.specs.Trees.{below, by_key, Front}
+use Rattle.heap.specs.Trees.{by_key, Front}
 use Rattle.heap.specs.Waiting.{waiting, room, Pushed, Peeked, Popped}
 
 -- what holds of all that wait holds of the one in front
@@ -26,17 +24,6 @@ pub least_key : {X K : Type 0} (before : K → K → Bool) (keyed : X → K) →
     → (xs : List X) (x y : X) → Front (by_key before keyed) xs x → ContainsAt xs y → AllByRecursion (λ z. by_key before keyed z y ≡ false) xs → keyed y ≡ keyed x
 least_key before keyed apart xs x y f has least =
     apart (keyed y) (keyed x) (all-has (λ z. by_key before keyed z x ≡ false) xs y f.least has) (of_front (by_key before keyed) (λ z. by_key before keyed z y ≡ false) xs x f least)
-
--- the keys of a heap are such keys
-pub one_key : {K : Type 0} (cmp : K → K → Ordering) → IsTotalOrder cmp → ((a b : K) → cmp a b ≡ Equal → a ≡ b) → (a b : K) → below cmp a b ≡ false → below cmp b a ≡ false → a ≡ b
-one_key cmp total apart a b h k = apart a b (level (cmp a b) (cmp b a) (total.antisymm a b) h k)
-  where
-    level : (r s : Ordering) → r ≡ ordering_reverse s → is_lt r ≡ false → is_lt s ≡ false → r ≡ Equal
-    level Less s e h k = absurd (true≢false h)
-    level Equal s e h k = refl
-    level Greater Less e h k = absurd (true≢false k)
-    level Greater Equal e h k = e
-    level Greater Greater e h k = absurd (true≢false (ap is_gt e))
 
 module _ {X K : Type 0} {kind : EntryGhosts X K} {order : OrdGhosts K} {equal : EqGhosts K} {partly : PartialGhosts K} where
   -- an entry that there is room for is taken

@@ -1,33 +1,18 @@
 -- Lists on their way to a tree, with one entry that still goes up or down. Assumes nothing.
-use Rattle.std.proofs.Common.{◌≡◌, ℕ, ◌<◌, Bool, true, false, List, length, get_or, Some, None, sym, refl, ◌∙◌, subst, arith, Ordering, Less, Equal, Greater, true≢false, ap}
+use Rattle.std.proofs.Common.{◌≡◌, ℕ, ◌<◌, Bool, List, length, get_or, Some, None, sym, subst, arith, Ordering}
 use Rattle.std.specs.Cmp.{IsTotalOrder}
-use Rattle.std.specs.Ordering.{is_lt, is_gt, ordering_reverse}
-use Rattle.std.proofs.lemmas.Cmp.{upto}
 use Rattle.std.proofs.lemmas.List.Edits.{Swapped}
 use Rattle.heap.specs.Steps.{Higher, Lower}
 use Rattle.heap.specs.Trees.{below, by_key, Tree}
+use Rattle.heap.proofs.Orders.{asymmetric, chains}
 use Rattle.heap.proofs.Trees.{Lawful, Loose, Under, Over, fixed, up_loose, up_under, down_loose, down_over}
 
 -- the laws of the keys hold of the entries
 pub lawful : {X K : Type 0} (cmp : K → K → Ordering) (keyed : X → K) → IsTotalOrder cmp → Lawful (by_key (below cmp) keyed)
 lawful cmp keyed total = record {
-  asymmetric = λ a b h. one_way (cmp (keyed b) (keyed a)) (sym (turned cmp total (keyed a) (keyed b)) ∙ h);
-  chains = λ a b c h k.
-      turned cmp total (keyed c) (keyed a) ∙ upto total (keyed a) (keyed b) (keyed c) (sym (turned cmp total (keyed b) (keyed a)) ∙ h) (sym (turned cmp total (keyed c) (keyed b)) ∙ k);
+  asymmetric = λ a b. asymmetric cmp total (keyed a) (keyed b);
+  chains = λ a b c. chains cmp total (keyed a) (keyed b) (keyed c);
 }
-  where
-    turned : {K : Type 0} (cmp : K → K → Ordering) → IsTotalOrder cmp → (a b : K) → below cmp a b ≡ is_gt (cmp b a)
-    turned cmp total a b = ap is_lt (total.antisymm a b) ∙ back (cmp b a)
-      where
-        back : (r : Ordering) → is_lt (ordering_reverse r) ≡ is_gt r
-        back Less = refl
-        back Equal = refl
-        back Greater = refl
-
-    one_way : (r : Ordering) → is_gt r ≡ true → is_lt r ≡ false
-    one_way Less h = absurd (true≢false (sym h))
-    one_way Equal h = refl
-    one_way Greater h = refl
 
 module _ {X : Type 0} (before : X → X → Bool) where
   -- the entry at `at` goes up

@@ -1,4 +1,5 @@
-ghost use Rattle.std.proofs.Common.{rules};
+ghost use Rattle.std.proofs.Common.{sym, Equal};
+ghost use Rattle.std.proofs.lemmas.Cmp.{ranked};
 
 use heap::{Entry, Heap};
 use std::cmp::Reverse;
@@ -13,7 +14,7 @@ impl Entry for Number {
 
     ghost keyed = { λ n. n };
 
-    ghost apart = { Prim.search rules };
+    ghost apart = { λ a b e i. record { 0 = ranked a.0 b.0 Equal (sym e) i } };
 
     fn key(&self) -> Number {
         *self
@@ -32,7 +33,7 @@ impl Entry for Parcel {
 
     ghost keyed = { λ p. record { 0 = p.load } };
 
-    ghost apart = { Prim.search rules };
+    ghost apart = { λ a b e i. record { 0 = sym (ranked b.0 a.0 Equal (sym e)) i } };
 
     fn key(&self) -> Reverse<u16> {
         Reverse(self.load)
