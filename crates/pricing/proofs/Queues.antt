@@ -21,16 +21,17 @@ later C x t f h = All-weaker (λ y. sooner y x ≡ false) (λ y. t ≤ y.slot) (
 pub all_none : {X : Type 0} (P : X → Type 0) (xs : List X) → xs ≡ [] → AllByRecursion P xs
 all_none P xs e = subst (AllByRecursion P) (sym e) tt
 
--- at is the moment of the one in front, and b tells whether that comes before what plays is done
-module _ (left : List ℕ) (C : List Release) (x : Release) (front : Front sooner C x) (at : ℕ) (slot : x.slot ≡ at) (b : Bool) where
-  before : (st : State) → b ≡ true → ((e : Event × ℕ) → completion_of st left ≡ Some e → b ≡ nat_lt at e.1) → Before st left at
+-- b tells whether the one in front comes before what plays is done
+module _ (left : List ℕ) (C : List Release) (x : Release) (front : Front sooner C x) (b : Bool) where
+  before : (st : State) → b ≡ true → ((e : Event × ℕ) → completion_of st left ≡ Some e → b ≡ nat_lt x.slot e.1) → Before st left x.slot
   before (Idle s) h tells = tt
-  before (Playing j s) h tells = ltb-true at _ (sym (tells _ refl) ∙ h)
+  before (Playing j s) h tells = ltb-true x.slot _ (sym (tells _ refl) ∙ h)
 
-  pub is_released : (st : State) (C' : List Release) (j : ℕ) → x.number ≡ j → b ≡ true → ((e : Event × ℕ) → completion_of st left ≡ Some e → b ≡ nat_lt at e.1) → IsPermutation C (x ∷ C') → at ≤ 255
-      → Next st left C C' (Some (Released j, at))
-  is_released st C' j num h tells took day = (x, num, slot, before st h tells, later C x at front (omega arith), took, day)
+  pub is_released : (st : State) (C' : List Release) (j at : ℕ) → x.number ≡ j → x.slot ≡ at → b ≡ true → ((e : Event × ℕ) → completion_of st left ≡ Some e → b ≡ nat_lt x.slot e.1)
+      → IsPermutation C (x ∷ C') → x.slot ≤ 255 → Next st left C C' (Some (Released j, at))
+  is_released st C' j at num slot h tells took day =
+      subst (λ (t : ℕ). Next st left C C' (Some (Released j, t))) slot (x, num, refl, before st h tells, later C x x.slot front (omega arith), took, day)
 
-  pub is_done : (st : State) → b ≡ false → (completion_of st left ≡ None → ⊥) → ((e : Event × ℕ) → completion_of st left ≡ Some e → b ≡ nat_lt at e.1) → Next st left C C (completion_of st left)
+  pub is_done : (st : State) → b ≡ false → (completion_of st left ≡ None → ⊥) → ((e : Event × ℕ) → completion_of st left ≡ Some e → b ≡ nat_lt x.slot e.1) → Next st left C C (completion_of st left)
   is_done (Idle s) h plays tells = absurd (plays refl)
-  is_done (Playing j s) h plays tells = (refl, refl, later C x _ front (omega (arith, ltb-false at _ (sym (tells _ refl) ∙ h))), refl)
+  is_done (Playing j s) h plays tells = (refl, refl, later C x _ front (ltb-false x.slot _ (sym (tells _ refl) ∙ h)), refl)
