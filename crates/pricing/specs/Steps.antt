@@ -6,8 +6,7 @@ use Rattle.tickets.specs.declared.ticket.Ticket.{Ticket}
 use Rattle.spreads.specs.Builder.{Builds, lengths, halves}
 use Rattle.pricing.specs.declared.work.Work.{Work}
 use Rattle.pricing.specs.declared.keys.Release.{Release}
-use Rattle.pricing.specs.declared.step.State.{State}
-use Rattle.pricing.specs.declared.step.State.TheVariants.{Idle, Playing}
+use Rattle.pricing.specs.declared.step.Playing.{Playing}
 use Rattle.pricing.specs.declared.step.Event.{Event}
 use Rattle.pricing.specs.declared.step.Event.TheVariants.{Release as Released, Completion}
 use Rattle.pricing.specs.Works.{entry, Stands}
@@ -34,31 +33,31 @@ pub record Entered (xs : List Work) (n : ℕ) (C : List Release) (left : List �
   pub past : (i : ℕ) → n ≤ i → slice_index left i ≡ 0
 
 -- how many tickets play
-abbrev pub busy : State → ℕ
-busy (Idle s) = 0
-busy (Playing j s) = 1
+abbrev pub busy : Option Playing → ℕ
+busy None = 0
+busy (Some p) = 1
 
 -- the completion of what plays and its moment, if nothing comes between
-abbrev pub completion_of : State → List ℕ → Option (Event × ℕ)
-completion_of (Idle s) left = None
-completion_of (Playing j s) left = Some (Completion j s, s + slice_index left j)
+abbrev pub completion_of : Option Playing → List ℕ → Option (Event × ℕ)
+completion_of None left = None
+completion_of (Some p) left = Some (Completion p, p.since + slice_index left p.ticket)
 
 -- what plays has a place in the list, and is done soon enough
-abbrev pub Fine : List ℕ → State → Type 0
-Fine left (Idle s) = Unit {0}
-Fine left (Playing j s) = (j < length left) × (s + slice_index left j < 65536)
+abbrev pub Fine : List ℕ → Option Playing → Type 0
+Fine left None = Unit {0}
+Fine left (Some p) = (p.ticket < length left) × (p.since + slice_index left p.ticket < 65536)
 
 -- the moment t comes before what plays is done, if something plays
-abbrev pub Before : State → List ℕ → ℕ → Type 0
-Before (Idle s) left t = Unit {0}
-Before (Playing j s) left t = t < s + slice_index left j
+abbrev pub Before : Option Playing → List ℕ → ℕ → Type 0
+Before None left t = Unit {0}
+Before (Some p) left t = t < p.since + slice_index left p.ticket
 
 -- the next event and its moment: C was to come, and C' is to come after it. A release comes only before what plays is done.
-abbrev pub Next : State → List ℕ → List Release → List Release → Option (Event × ℕ) → Type 0
-Next state left C C' None = (busy state ≡ 0) × (length C ≡ 0)
-Next state left C C' (Some (Released j, at)) =
-    (x : Release) × (x.number ≡ j) × (x.slot ≡ at) × Before state left at × AllByRecursion (λ y. at ≤ y.slot) C × IsPermutation C (x ∷ C') × (at ≤ 255)
-Next state left C C' (Some (Completion j s, at)) = (state ≡ Playing j s) × (at ≡ s + slice_index left j) × AllByRecursion (λ y. at ≤ y.slot) C × (C' ≡ C)
+abbrev pub Next : Option Playing → List ℕ → List Release → List Release → Option (Event × ℕ) → Type 0
+Next playing left C C' None = (busy playing ≡ 0) × (length C ≡ 0)
+Next playing left C C' (Some (Released j, at)) =
+    (x : Release) × (x.number ≡ j) × (x.slot ≡ at) × Before playing left at × AllByRecursion (λ y. at ≤ y.slot) C × IsPermutation C (x ∷ C') × (at ≤ 255)
+Next playing left C C' (Some (Completion p, at)) = (playing ≡ Some p) × (at ≡ p.since + slice_index left p.ticket) × AllByRecursion (λ y. at ≤ y.slot) C × (C' ≡ C)
 
 -- c has the busy terms of what is built of the entries, whatever tickets they stand for
 abbrev pub Busy : List Work → ℕ → Type 0

@@ -9,7 +9,7 @@ ghost use Rattle.pricing.specs.Steps.{Entered, Busy, Priced};
 use crate::events::next_event;
 use crate::guard::Guard;
 use crate::keys::{Rank, Release};
-use crate::step::{Event, State};
+use crate::step::{Event, Playing};
 use crate::terms::{half, stretch};
 use crate::work::Works;
 use heap::{Heap, Order};
@@ -77,35 +77,32 @@ impl Works {
         let mut coming = Heap::new(&mut coming_slots);
         let mut ready = Heap::new(&mut ready_slots);
         self.enter(&mut coming, &mut left);
-        let mut state = State::Idle { since: 0 };
+        let mut playing: Option<Playing> = None;
         let mut spent = 0u64;
-        while let Some((event, at)) = next_event(&mut coming, state, &left) {
+        while let Some((event, at)) = next_event(&mut coming, playing, &left) {
             match event {
-                Event::Release(ticket) => match state {
-                    State::Idle { .. } => state = State::Playing { ticket, since: at },
-                    State::Playing { ticket: old, since } => {
+                Event::Release(ticket) => match playing {
+                    None => playing = Some(Playing { ticket, since: at }),
+                    Some(old) => {
                         let own = self.rank(ticket);
-                        let other = self.rank(old);
+                        let other = self.rank(old.ticket);
                         if own.is_before(&other) {
-                            spent += stretch(self.entries[old], since, at);
-                            left[old] -= (at - since) as u8;
+                            spent += stretch(self.entries[old.ticket], old.since, at);
+                            left[old.ticket] -= (at - old.since) as u8;
                             let _ = ready.push(other);
-                            state = State::Playing { ticket, since: at };
+                            playing = Some(Playing { ticket, since: at });
                         } else {
                             let _ = ready.push(own);
                         }
                     }
                 },
-                Event::Completion { ticket: old, since } => {
-                    spent += stretch(self.entries[old], since, at);
-                    left[old] = 0;
-                    state = match ready.pop() {
-                        Some(next) => State::Playing {
-                            ticket: usize::from(next.number),
-                            since: at,
-                        },
-                        None => State::Idle { since: at },
-                    };
+                Event::Completion(old) => {
+                    spent += stretch(self.entries[old.ticket], old.since, at);
+                    left[old.ticket] = 0;
+                    playing = ready.pop().map(|next| Playing {
+                        ticket: usize::from(next.number),
+                        since: at,
+                    });
                 }
             }
         }

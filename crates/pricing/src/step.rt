@@ -1,10 +1,10 @@
 //! What the builder is at, and what happens to it.
 
-/// What plays, and since when.
+/// A ticket that plays, and since when.
 #[derive(Clone, Copy)]
-pub(crate) enum State {
-    Idle { since: u16 },
-    Playing { ticket: usize, since: u16 },
+pub(crate) struct Playing {
+    pub(crate) ticket: usize,
+    pub(crate) since: u16,
 }
 
 /// What happens next.
@@ -12,6 +12,6 @@ pub(crate) enum State {
 pub(crate) enum Event {
     /// The ticket is released.
     Release(usize),
-    /// The ticket, which plays since then, is done.
-    Completion { ticket: usize, since: u16 },
+    /// What plays is done.
+    Completion(Playing),
 }
