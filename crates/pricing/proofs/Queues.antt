@@ -3,13 +3,13 @@ use Rattle.std.proofs.Common.{◌≡◌, ℕ, ◌≤◌, Bool, true, false, nat_
 use Rattle.std.specs.List.{AllByRecursion}
 use Rattle.std.specs.List.Sorted.{IsPermutation}
 use Rattle.std.proofs.ByRecursion.{All-weaker}
-use Rattle.heap.specs.Waiting.{Front}
+use Rattle.heap.specs.Trees.{below, Front}
 use Rattle.pricing.specs.declared.keys.Release.{Release}
 use Rattle.pricing.specs.declared.step.Playing.{Playing}
 use Rattle.pricing.specs.declared.step.Event.{Event}
 use Rattle.pricing.specs.declared.step.Event.TheVariants.{Release as Released}
-use Rattle.pricing.specs.Keys.{sooner}
-use Rattle.pricing.specs.Laws.{not_sooner}
+use Rattle.pricing.specs.Keys.{sooner, release_cmp}
+use Rattle.pricing.specs.Laws.{not_sooner, sooner_is}
 use Rattle.pricing.specs.Steps.{completion_of, Before, Next}
 
 -- what comes is not before the one in front
@@ -21,7 +21,10 @@ pub all_none : {X : Type 0} (P : X → Type 0) (xs : List X) → xs ≡ [] → A
 all_none P xs e = subst (AllByRecursion P) (sym e) tt
 
 -- b tells whether the one in front comes before what plays is done
-module _ (left : List ℕ) (C : List Release) (x : Release) (front : Front sooner C x) (b : Bool) where
+module _ (left : List ℕ) (C : List Release) (x : Release) (line : Front (below release_cmp) C x) (b : Bool) where
+  front : Front sooner C x
+  front = subst (λ (before : Release → Release → Bool). Front before C x) sooner_is line
+
   before : (playing : Option Playing) → b ≡ true → ((e : Event × ℕ) → completion_of playing left ≡ Some e → b ≡ nat_lt x.slot e.1) → Before playing left x.slot
   before None h tells = tt
   before (Some p) h tells = ltb-true x.slot _ (sym (tells _ refl) ∙ h)

@@ -395,7 +395,7 @@ module _ {xs : List Work} {C : List Release} {R : List Rank} {left : List ℕ} {
       subst (λ (v : Played). Going xs (Playing v.ticket v.since) C R left spent) f g
 
 -- what played is done, and r came out of those that wait: it plays
-pub after : (xs : List Work) (C C' : List Release) (h k : Heap Rank Rank) (left : List ℕ) (spent at o s : ℕ)
+pub after : (xs : List Work) (C C' : List Release) {kind : _} {order : _} {equal : _} {partly : _} (h k : Heap Rank Rank kind order equal partly) (left : List ℕ) (spent at o s : ℕ)
     → Going xs (Playing o s) C (waiting h) left spent → Next (playing_in (Playing o s)) left C C' (Some (Completion (record { ticket = o; since = s }), at))
     → (cost : ℕ) → cost ≡ stretch_of (entry xs o) s at → cost ≤ most_stretch
     → (r : Option Rank) → Popped higher h r k → (p : Option Played) → (r ≡ None → p ≡ None) → ((x : Rank) → r ≡ Some x → p ≡ Some (record { ticket = x.number; since = at }))

@@ -1,7 +1,6 @@
 //! The builder: the cheapest spread, built in time order from event to event.
 ghost use Rattle.std.specs.Prelude.{◌≡◌, ◌+◌, ◌*◌, ◌<◌, ◌≤◌, true, length};
-ghost use Rattle.heap.specs.Waiting.{waiting, room, Sound, SameSlots};
-ghost use Rattle.pricing.specs.Keys.{sooner};
+ghost use Rattle.heap.specs.Waiting.{waiting, room, SameSlots};
 ghost use Rattle.pricing.specs.Works.{rank_of, moved};
 ghost use Rattle.pricing.specs.Terms.{most_stretch, most_half, halves_of};
 ghost use Rattle.pricing.specs.Steps.{Entered, Busy, Priced};
@@ -12,7 +11,7 @@ use crate::keys::{Rank, Release};
 use crate::step::{Event, Playing};
 use crate::terms::{half, stretch};
 use crate::work::Works;
-use heap::{Heap, Order};
+use heap::Heap;
 
 /// What stands in a slot in which nothing waits.
 const NO_RELEASE: Release = Release { slot: 0, number: 0 };
@@ -50,10 +49,8 @@ impl Works {
 
     /// Enters each ticket's release into `coming`, and what it has to play into `left`.
     fn enter(&self, coming: &mut Heap<Release>, left: &mut [u8])
-        requires sound { Sound sooner coming.old }
         requires room { room coming.old ≡ 24 }
         requires entered { Entered self.now.entries.items 0 (waiting coming.old) left.old }
-        ensures sound { Sound sooner coming.new }
         ensures slots { SameSlots coming.old coming.new }
         ensures entered { Entered self.now.entries.items (length self.now.entries.items) (waiting coming.new) left.new }
     {
@@ -86,7 +83,7 @@ impl Works {
                     Some(old) => {
                         let own = self.rank(ticket);
                         let other = self.rank(old.ticket);
-                        if own.is_before(&other) {
+                        if own < other {
                             spent += stretch(self.entries[old.ticket], old.since, at);
                             left[old.ticket] -= (at - old.since) as u8;
                             let _ = ready.push(other);

@@ -1,7 +1,6 @@
 //! What happens next.
 ghost use Rattle.std.specs.Prelude.{◌≡◌, ◌+◌, ◌<◌};
-ghost use Rattle.heap.specs.Waiting.{waiting, Sound};
-ghost use Rattle.pricing.specs.Keys.{sooner};
+ghost use Rattle.heap.specs.Waiting.{waiting};
 ghost use Rattle.pricing.specs.Steps.{completion_of, Fine, Next};
 
 use crate::keys::Release;
@@ -24,10 +23,8 @@ pub(crate) fn next_event(
     playing: Option<Playing>,
     left: &[u8],
 ) -> Option<(Event, u16)>
-    requires sound { Sound sooner coming.old }
-    requires fine { Fine left.now playing }
-    ensures sound { Sound sooner coming.new }
-    ensures next { Next playing left.now (waiting coming.old) (waiting coming.new) result }
+    requires { Fine left.now playing }
+    ensures { Next playing left.now (waiting coming.old) (waiting coming.new) result }
 {
     let completion = completion(playing, left);
     if let Some(first) = coming.peek() {
