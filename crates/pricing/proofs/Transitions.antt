@@ -3,6 +3,7 @@ use Rattle.std.proofs.Common.{◌≡◌, ℕ, ◌+◌, ◌-◌, ◌*◌, ◌/◌
 use Rattle.std.specs.List.{AllByRecursion}
 use Rattle.std.specs.List.Sorted.{IsPermutation}
 use Rattle.std.proofs.lemmas.Bool.{cases_eq, cases_lt}
+use Rattle.std.proofs.lemmas.List.{nil_from_length}
 use Rattle.std.proofs.ByRecursion.{all-has, All-weaker}
 use Rattle.tickets.specs.declared.ticket.Ticket.{Ticket}
 use Rattle.spreads.specs.Spreads.{ticket, value}
@@ -20,7 +21,7 @@ use Rattle.pricing.specs.declared.step.Event.TheVariants.{Release as Released, C
 use Rattle.pricing.specs.Keys.{higher}
 use Rattle.pricing.specs.Works.{entry, rank_of, Stands}
 use Rattle.pricing.specs.Terms.{slots_between, stretch_of, most_stretch}
-use Rattle.pricing.specs.Steps.{Coming, Ours, Entered, busy, Fine, Next, Busy}
+use Rattle.pricing.specs.Steps.{Coming, Ours, Entered, busy, Next, Busy}
 use Rattle.pricing.specs.Laws.{higher_chain, higher_irrefl}
 use Rattle.pricing.proofs.Queues.{all_none}
 use Rattle.pricing.proofs.Bags.{in_taken, all_taken, one_taken, length_taken, in_old, in_new, all_put, length_put}
@@ -31,10 +32,6 @@ slot_number x = x.number
 
 abbrev rank_number : Rank → ℕ
 rank_number x = x.number
-
-empty : {X : Type 0} (xs : List X) → length xs ≡ 0 → xs ≡ []
-empty [] e = refl
-empty (x ∷ xs) e = absurd (omega arith)
 
 -- a write of less keeps what is below
 set_le : (left : List ℕ) (o y : ℕ) → o < length left → y ≤ get_or left o 0 → (i : ℕ) → get_or (set left o y) i 0 ≤ get_or left i 0
@@ -159,7 +156,7 @@ module _ (xs : List Work) (C C' : List Release) (R : List Rank) (left : List ℕ
               | inr (inl q) ↦ inr (inl q)
               | inr (inr z) ↦ absurd z
             ];
-        on = (known_j xs (Idle s) C C' R left spent j at g n, omega (arith, when xs (Idle s) C C' R left spent j at g n), omega arith, all_none (Under xs at j) R (empty R z));
+        on = (known_j xs (Idle s) C C' R left spent j at g n, omega (arith, when xs (Idle s) C C' R left spent j at g n), omega arith, all_none (Under xs at j) R (nil_from_length R z));
         soon = omega (arith, g.count, g.few);
         cheap = omega (arith, g.cheap);
         so_far = λ ts r v st c q. g.so_far ts r v st c (idles_many ts r v s left (at - s) (nobody ts r v st) c (like ts r v (sym e) refl refl q));
@@ -418,7 +415,3 @@ all_over xs p C R left spent (Idle s, is, g) b e ts r v st =
           [ inl q ↦ absurd (omega (arith, q.1.1)) | inr (inl q) ↦ absurd (omega (arith, q.1.1, g.on)) | inr (inr z) ↦ absurd z ]
       | inr z ↦ omega arith
     ])))
-
-pub fine : (xs : List Work) (p : Option Played) (C : List Release) (R : List Rank) (left : List ℕ) (spent : ℕ) → GoingOn xs p C R left spent → Fine left p
-fine xs p C R left spent (Idle s, is, g) = subst (Fine left) (sym is) tt
-fine xs p C R left spent (Playing j s, is, g) = subst (Fine left) (sym is) (omega (arith, g.on.0, g.few, g.places), omega (arith, g.soon, g.short j))
