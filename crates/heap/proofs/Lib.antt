@@ -1,4 +1,5 @@
 pub mod Consequences
+pub mod Orders
 mod Sifting
 mod Slots
 mod Trees

@@ -1,20 +1,17 @@
 -- Lists on their way to a tree, with one entry that still goes up or down. Assumes nothing.
-use Rattle.std.proofs.Common.{◌≡◌, ℕ, ◌+◌, ◌-◌, ◌*◌, ◌<◌, Bool, true, false, ◌≢◌, List, length, get_or, take, set, Some, None, sym, ◌∙◌, subst, inl, inr, arith}
+use Rattle.std.proofs.Common.{◌≡◌, ℕ, ◌<◌, Bool, List, length, get_or, Some, None, sym, subst, arith, Ordering}
+use Rattle.std.specs.Cmp.{IsTotalOrder}
 use Rattle.std.proofs.lemmas.List.Edits.{Swapped}
-use Rattle.std.proofs.lemmas.List.{length-take-le, length-set, get_or-take, get_or-set_other}
-use Rattle.std.proofs.lemmas.Bool.{cases_eq}
-use Rattle.heap.specs.Steps.{Higher, FirstChild, Lower}
-use Rattle.heap.specs.Waiting.{by_key, Tree}
-use Rattle.heap.proofs.Trees.{Lawful, Loose, Under, Over, fixed, not_itself, up_loose, up_under, down_loose, down_over}
+use Rattle.heap.specs.Steps.{Higher, Lower}
+use Rattle.heap.specs.Trees.{below, by_key, Tree}
+use Rattle.heap.proofs.Orders.{asymmetric, chains}
+use Rattle.heap.proofs.Trees.{Lawful, Loose, Under, Over, fixed, up_loose, up_under, down_loose, down_over}
 
 -- the laws of the keys hold of the entries
-pub lawful : {X K : Type 0} (before : K → K → Bool) (keyed : X → K)
-    → ((a b : K) → before a b ≡ true → before b a ≡ false)
-    → ((a b c : K) → before b a ≡ false → before c b ≡ false → before c a ≡ false)
-    → Lawful (by_key before keyed)
-lawful before keyed asymmetric chains = record {
-  asymmetric = λ a b. asymmetric (keyed a) (keyed b);
-  chains = λ a b c. chains (keyed a) (keyed b) (keyed c);
+pub lawful : {X K : Type 0} (cmp : K → K → Ordering) (keyed : X → K) → IsTotalOrder cmp → Lawful (by_key (below cmp) keyed)
+lawful cmp keyed total = record {
+  asymmetric = λ a b. asymmetric cmp total (keyed a) (keyed b);
+  chains = λ a b c. chains cmp total (keyed a) (keyed b) (keyed c);
 }
 
 module _ {X : Type 0} (before : X → X → Bool) where
@@ -29,36 +26,6 @@ module _ {X : Type 0} (before : X → X → Bool) where
     pub loose : (d : X) → Loose before (λ i. get_or xs i d) (length xs) at
     pub over : (d : X) → Over before (λ i. get_or xs i d) (length xs) at (get_or xs at d)
 
-  -- the last entry, after a tree of the others
-  pub last_rises : (xs : List X) → 0 < length xs → Tree before (take (length xs - 1) xs) → Rising xs (length xs - 1)
-  last_rises xs some tree = record {
-    here = omega arith;
-    loose = λ d. record {
-      away = λ p i h np ni. (λ t. before (front d i (omega arith) t) (front d p (omega arith) t)) ∙ tree d p i (h.0, omega (arith, long), h.2);
-      across = λ p i k h. absurd (omega arith);
-    };
-    under = λ d i h. absurd (omega arith);
-  }
-    where
-      long : length (take (length xs - 1) xs) ≡ length xs - 1
-      long = length-take-le (length xs - 1) xs (omega arith)
-
-      front : (d : X) (i : ℕ) → i < length xs - 1 → get_or xs i d ≡ get_or (take (length xs - 1) xs) i d
-      front d i l = sym (get_or-take (length xs - 1) xs i d l)
-
-  -- the first entry, where another in its place makes a tree
-  pub first_sinks : (xs : List X) (x : X) → Tree before (set xs 0 x) → Sinking xs 0
-  first_sinks xs x tree = record {
-    loose = λ d. record {
-      away = λ p i h np ni. (λ t. before (same d i ni t) (same d p np t)) ∙ tree d p i (h.0, omega (arith, length-set xs 0 x), h.2);
-      across = λ p i k h. absurd (omega arith);
-    };
-    over = λ d p k. absurd (omega arith);
-  }
-    where
-      same : (d : X) (i : ℕ) → i ≢ 0 → get_or xs i d ≡ get_or (set xs 0 x) i d
-      same d i ne = sym (get_or-set_other xs 0 i x d ne)
-
   -- an entry that goes no higher is in its place
   pub risen : (xs : List X) (at : ℕ) → Rising xs at → Higher before xs at None → Tree before xs
   risen xs at r stays d = fixed before (λ i. get_or xs i d) (length xs) at (r.loose d) (r.under d) (stays d)
@@ -68,21 +35,6 @@ module _ {X : Type 0} (before : X → X → Bool) where
   sunk xs at s stays d = fixed before (λ i. get_or xs i d) (length xs) at (s.loose d) (stays d) (s.over d)
 
   module _ (law : Lawful before) where
-    -- the left child comes first where the right one is not before it, if there is one
-    pub left_first : (xs : List X) (p : ℕ) → p * 2 + 1 < length xs
-        → ((d : X) → p * 2 + 1 + 1 < length xs → before (get_or xs (p * 2 + 1 + 1) d) (get_or xs (p * 2 + 1) d) ≡ false)
-        → FirstChild before xs p (Some (p * 2 + 1))
-    left_first xs p l right = (
-      (omega arith, l, omega arith),
-      λ d i h.
-          elim (cases_eq i (p * 2 + 1)) [
-            | inl e ↦ subst (λ (k : ℕ). before (get_or xs k d) (get_or xs (p * 2 + 1) d) ≡ false) (sym e) (not_itself before law (get_or xs (p * 2 + 1) d))
-            | inr ne ↦
-                let e : i ≡ p * 2 + 1 + 1 = omega arith in
-                subst (λ (k : ℕ). before (get_or xs k d) (get_or xs (p * 2 + 1) d) ≡ false) (sym e) (right d (omega arith))
-          ],
-    )
-
     -- the entry at c is before its parent at p, and they change places
     module _ (xs ys : List X) (p c : ℕ) (long : length ys ≡ length xs) (swap : (d : X) → Swapped (λ i. get_or xs i d) (λ i. get_or ys i d) c p) where
       pub rises : Higher before xs c (Some p) → Rising xs c → Rising ys p

@@ -2,7 +2,7 @@
 use Rattle.std.proofs.Common.{◌≡◌, ℕ, zero, suc, ◌-◌, ◌/◌, ◌<◌, Bool, true, false, ◌≢◌, sym, refl, ap, ◌∙◌, subst, inl, inr, arith}
 use Rattle.std.proofs.lemmas.List.Edits.{Swapped}
 use Rattle.std.proofs.lemmas.Bool.{cases_eq}
-use Rattle.heap.specs.Waiting.{Child}
+use Rattle.heap.specs.Trees.{Child}
 
 -- the two laws of an order that a heap rests on
 pub record Lawful {X : Type 0} (before : X → X → Bool) : Type 0 where

@@ -1,6 +1,6 @@
 -- What the steps of sifting answer: the place that an entry goes to next. Assumes nothing.
 use Rattle.std.specs.Prelude.{◌≡◌, ℕ, Bool, true, false, List, length, Some, None, Option, slice_index_or}
-use Rattle.heap.specs.Waiting.{Child}
+use Rattle.heap.specs.Trees.{Child}
 
 module _ {X : Type 0} (before : X → X → Bool) where
   -- the entry at i is before its parent at p, or is not before its parent

@@ -1,22 +1,22 @@
-ghost use Rattle.std.specs.Prelude.{◌≡◌, ◌-◌, ◌<◌, length, take, slice_index_or, slice_set};
+ghost use Rattle.std.specs.Prelude.{◌≡◌, ◌-◌, ◌<◌, ◌∷◌, length, take, slice_index_or, slice_set};
 ghost use Rattle.std.specs.List.Sorted.{IsPermutation};
 ghost use Rattle.heap.specs.Steps.{Higher, FirstChild, Lower};
-ghost use Rattle.heap.specs.Waiting.{by_key, Tree};
+ghost use Rattle.heap.specs.Trees.{below, by_key, Tree, Front};
 
-use crate::entry::{Entry, Order};
+use crate::entry::Entry;
 
 /// Whether the entry at `i` is before the one at `j`.
 fn is_before_at<E: Entry>(slots: &[E], i: usize, j: usize) -> bool
     requires { (i < length slots.now) × (j < length slots.now) }
-    ensures { (d : E) → by_key E.Key.Order.before E.keyed (slice_index_or slots.now i d) (slice_index_or slots.now j d) ≡ result }
+    ensures { (d : E) → by_key (below E.Key.cmp) E.keyed (slice_index_or slots.now i d) (slice_index_or slots.now j d) ≡ result }
 {
-    slots[i].key().is_before(&slots[j].key())
+    slots[i].key() < slots[j].key()
 }
 
 /// The parent of `at`, if the entry at `at` is before it.
 fn higher<E: Entry>(slots: &[E], at: usize) -> Option<usize>
     requires { at < length slots.now }
-    ensures { Higher (by_key E.Key.Order.before E.keyed) slots.now at result }
+    ensures { Higher (by_key (below E.Key.cmp) E.keyed) slots.now at result }
 {
     if at == 0 {
         return None;
@@ -32,9 +32,9 @@ fn higher<E: Entry>(slots: &[E], at: usize) -> Option<usize>
 /// Moves the last entry up to its place in the tree of the others.
 pub(crate) fn sift_up<E: Entry>(slots: &mut [E])
     requires some { 0 < length slots.old }
-    requires others { Tree (by_key E.Key.Order.before E.keyed) (take (length slots.old - 1) slots.old) }
+    requires others { Tree (by_key (below E.Key.cmp) E.keyed) (take (length slots.old - 1) slots.old) }
     ensures shuffled { IsPermutation slots.old slots.new }
-    ensures tree { Tree (by_key E.Key.Order.before E.keyed) slots.new }
+    ensures tree { Tree (by_key (below E.Key.cmp) E.keyed) slots.new }
 {
     let mut at = slots.len() - 1;
     while let Some(parent) = higher(slots, at) {
@@ -45,7 +45,7 @@ pub(crate) fn sift_up<E: Entry>(slots: &mut [E])
 
 /// A child of `at` that no child of `at` is before, if it has a child.
 fn first_child<E: Entry>(slots: &[E], at: usize) -> Option<usize>
-    ensures { FirstChild (by_key E.Key.Order.before E.keyed) slots.now at result }
+    ensures { FirstChild (by_key (below E.Key.cmp) E.keyed) slots.now at result }
 {
     if at >= slots.len() / 2 {
         return None;
@@ -61,7 +61,7 @@ fn first_child<E: Entry>(slots: &[E], at: usize) -> Option<usize>
 
 /// The first child of `at`, if it is before the entry at `at`.
 fn lower<E: Entry>(slots: &[E], at: usize) -> Option<usize>
-    ensures { Lower (by_key E.Key.Order.before E.keyed) slots.now at result }
+    ensures { Lower (by_key (below E.Key.cmp) E.keyed) slots.now at result }
 {
     let child = first_child(slots, at)?;
     if is_before_at(slots, child, at) {
@@ -72,14 +72,29 @@ fn lower<E: Entry>(slots: &[E], at: usize) -> Option<usize>
 }
 
 /// Moves the first entry down to its place; with another first entry it is a tree.
-pub(crate) fn sift_down<E: Entry>(slots: &mut [E])
-    requires { (x : E) × Tree (by_key E.Key.Order.before E.keyed) (slice_set slots.old 0 x) }
+fn sift_down<E: Entry>(slots: &mut [E])
+    requires { (x : E) × Tree (by_key (below E.Key.cmp) E.keyed) (slice_set slots.old 0 x) }
     ensures shuffled { IsPermutation slots.old slots.new }
-    ensures tree { Tree (by_key E.Key.Order.before E.keyed) slots.new }
+    ensures tree { Tree (by_key (below E.Key.cmp) E.keyed) slots.new }
 {
     let mut at = 0;
     while let Some(child) = lower(slots, at) {
         slots.swap(child, at);
         at = child;
     }
+}
+
+/// Hands out the first entry of a tree, and leaves a tree of the others in front of the last place.
+pub(crate) fn take_first<E: Entry>(slots: &mut [E]) -> E
+    requires some { 0 < length slots.old }
+    requires tree { Tree (by_key (below E.Key.cmp) E.keyed) slots.old }
+    ensures front { Front (by_key (below E.Key.cmp) E.keyed) slots.old result }
+    ensures others { IsPermutation slots.old (result ∷ take (length slots.old - 1) slots.new) }
+    ensures tree { Tree (by_key (below E.Key.cmp) E.keyed) (take (length slots.old - 1) slots.new) }
+{
+    let first = slots[0];
+    let last = slots.len() - 1;
+    slots[0] = slots[last];
+    sift_down(&mut slots[0..last]);
+    first
 }

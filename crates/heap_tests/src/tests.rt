@@ -1,69 +1,42 @@
-ghost use Rattle.std.specs.Prelude.{nat_lt};
-ghost use Rattle.heap_tests.specs.Orders.{lower_asymmetric, lower_chains, lower_apart};
+ghost use Rattle.std.proofs.Common.{sym, Equal};
+ghost use Rattle.std.proofs.lemmas.Cmp.{ranked};
 
-use heap::{Entry, Heap, Order};
+use heap::{Entry, Heap};
+use std::cmp::Reverse;
 use std::test::Fail;
 
 /// A number, which is its own key: the lower comes first.
-#[derive(Clone, Copy)]
+#[derive(Clone, Copy, PartialEq, Eq, PartialOrd, Ord)]
 struct Number(u16);
-
-impl Order for Number {
-    ghost before = { λ a b. nat_lt a.0 b.0 };
-
-    ghost asymmetric = { λ a b. lower_asymmetric a.0 b.0 };
-
-    ghost chains = { λ a b c. lower_chains a.0 b.0 c.0 };
-
-    ghost apart = { λ a b h k i. record { 0 = lower_apart a.0 b.0 h k i } };
-
-    fn is_before(&self, other: &Number) -> bool {
-        self.0 < other.0
-    }
-}
 
 impl Entry for Number {
     type Key = Number;
 
     ghost keyed = { λ n. n };
 
+    ghost apart = { λ a b e i. record { 0 = ranked a.0 b.0 Equal (sym e) i } };
+
     fn key(&self) -> Number {
         *self
     }
 }
 
-/// A load: the greater comes first.
-#[derive(Clone, Copy)]
-struct Load(u16);
-
-/// A parcel, which waits by its load.
+/// A parcel, which waits by its load: the greater comes first.
 #[derive(Clone, Copy)]
 struct Parcel {
     label: char,
-    load: Load,
-}
-
-impl Order for Load {
-    ghost before = { λ a b. nat_lt b.0 a.0 };
-
-    ghost asymmetric = { λ a b. lower_asymmetric b.0 a.0 };
-
-    ghost chains = { λ a b c h k. lower_chains c.0 b.0 a.0 k h };
-
-    ghost apart = { λ a b h k i. record { 0 = lower_apart a.0 b.0 k h i } };
-
-    fn is_before(&self, other: &Load) -> bool {
-        self.0 > other.0
-    }
+    load: u16,
 }
 
 impl Entry for Parcel {
-    type Key = Load;
+    type Key = Reverse<u16>;
 
-    ghost keyed = { λ p. p.load };
+    ghost keyed = { λ p. record { 0 = p.load } };
 
-    fn key(&self) -> Load {
-        self.load
+    ghost apart = { λ a b e i. record { 0 = sym (ranked b.0 a.0 Equal (sym e)) i } };
+
+    fn key(&self) -> Reverse<u16> {
+        Reverse(self.load)
     }
 }
 
@@ -86,19 +59,16 @@ fn numbers_come_in_order(rt: HostRuntime) -> Result<(), Fail> {
 fn heavy_parcels_come_first(rt: HostRuntime) -> Result<(), Fail> {
     let mut slots = [Parcel {
         label: ' ',
-        load: Load(0),
+        load: 0,
     }; 3];
     let mut heap = Heap::new(&mut slots);
     assert!(rt; heap.peek().is_none() && heap.pop().is_none());
     for (label, load) in [('a', 5), ('b', 7), ('c', 6)] {
-        let _ = heap.push(Parcel {
-            label,
-            load: Load(load),
-        });
+        let _ = heap.push(Parcel { label, load });
     }
     let back = heap.push(Parcel {
         label: 'd',
-        load: Load(8),
+        load: 8,
     });
     assert_eq!(rt; back.err().ok_or("taken")?.label, 'd');
     assert_eq!(rt; heap.peek().ok_or("none")?.label, 'b');

@@ -1,5 +1,7 @@
 -- The orders of the two waiting lines. Assumes nothing.
 use Rattle.std.specs.Prelude.{◌*◌, Bool, not, ◌&&◌, ◌||◌, ltb, nat_lt}
+use Rattle.std.specs.declared.cmp.Ordering.{Ordering}
+use Rattle.std.specs.Ordering.{nat_cmp, bool_cmp, on, then_cmp, flip_args}
 use Rattle.pricing.specs.declared.keys.Release.{Release}
 use Rattle.pricing.specs.declared.keys.Rank.{Rank}
 
@@ -30,3 +32,13 @@ shorter x y = nat_lt x.length y.length
 -- the pinned first, then the greater w / p, then the lower number, then the lower p
 abbrev pub higher : Rank → Rank → Bool
 higher = lex marked (lex denser (lex lower shorter))
+
+-- the same orders, as `cmp` answers them
+abbrev pub density_cmp : Rank → Rank → Ordering
+density_cmp x y = nat_cmp (y.weight * x.length) (x.weight * y.length)
+
+abbrev pub rank_cmp : Rank → Rank → Ordering
+rank_cmp = then_cmp (flip_args (on (λ x. x.pinned) bool_cmp)) (then_cmp density_cmp (then_cmp (on (λ x. x.number) nat_cmp) (on (λ x. x.length) nat_cmp)))
+
+abbrev pub release_cmp : Release → Release → Ordering
+release_cmp = then_cmp (on (λ x. x.slot) nat_cmp) (on (λ x. x.number) nat_cmp)

@@ -1,59 +1,55 @@
 //! The orders of the two waiting lines.
-ghost use Rattle.pricing.specs.Keys.{sooner, higher};
-ghost use Rattle.pricing.specs.Laws.{sooner_asym, sooner_chain, sooner_apart, higher_asym, higher_chain, higher_apart};
+ghost use Rattle.std.specs.Prelude.{refl};
+ghost use Rattle.std.specs.Cmp.{partial_order_from_agreeing_total};
+ghost use Rattle.std.specs.Ordering.{as_partial_cmp};
+ghost use Rattle.pricing.specs.Keys.{rank_cmp};
+ghost use Rattle.pricing.specs.Laws.{release_apart, rank_total, rank_eq, rank_apart};
 
 use crate::keys::{Rank, Release};
-use heap::{Entry, Order};
-
-impl Order for Release {
-    ghost before = { sooner };
-
-    ghost asymmetric = { sooner_asym };
-
-    ghost chains = { sooner_chain };
-
-    ghost apart = { sooner_apart };
-
-    fn is_before(&self, other: &Release) -> bool {
-        if self.slot != other.slot {
-            return self.slot < other.slot;
-        }
-        self.number < other.number
-    }
-}
+use heap::Entry;
+use std::cmp::Ordering;
 
 impl Entry for Release {
     type Key = Release;
 
     ghost keyed = { λ x. x };
 
+    ghost apart = { release_apart };
+
     fn key(&self) -> Release {
         *self
     }
 }
 
-impl Order for Rank {
-    ghost before = { higher };
+/// The pinned first, then the greater w / p, then the lower number, then the lower p. A derive would compare w and p.
+impl Ord for Rank {
+    ghost cmp = { rank_cmp };
 
-    ghost asymmetric = { higher_asym };
+    ghost total = { rank_total };
 
-    ghost chains = { higher_chain };
+    ghost matches_partial_cmp = { λ x y. refl };
 
-    ghost apart = { higher_apart };
+    ghost matches_eq = { rank_eq };
 
-    fn is_before(&self, other: &Rank) -> bool {
-        if self.pinned != other.pinned {
-            return self.pinned;
-        }
-        let mine = self.weight as u32 * other.length as u32;
-        let theirs = other.weight as u32 * self.length as u32;
-        if mine != theirs {
-            return theirs < mine;
-        }
-        if self.number != other.number {
-            return self.number < other.number;
-        }
-        self.length < other.length
+    fn cmp(&self, other: &Rank) -> Ordering {
+        let mine = u32::from(self.weight) * u32::from(other.length);
+        let theirs = u32::from(other.weight) * u32::from(self.length);
+        other
+            .pinned
+            .cmp(&self.pinned)
+            .then(theirs.cmp(&mine))
+            .then(self.number.cmp(&other.number))
+            .then(self.length.cmp(&other.length))
+    }
+}
+
+impl PartialOrd for Rank {
+    ghost partial_cmp = { as_partial_cmp rank_cmp };
+
+    ghost laws = { partial_order_from_agreeing_total rank_cmp rank_total (λ x y. refl) rank_eq };
+
+    fn partial_cmp(&self, other: &Rank) -> Option<Ordering> {
+        Some(self.cmp(other))
     }
 }
 
@@ -61,6 +57,8 @@ impl Entry for Rank {
     type Key = Rank;
 
     ghost keyed = { λ x. x };
+
+    ghost apart = { rank_apart };
 
     fn key(&self) -> Rank {
         *self

@@ -1,11 +1,14 @@
-use Rattle.std.proofs.Common.{arith}
-use Rattle.heap.specs.Waiting.{by_key}
+use Rattle.std.proofs.Common.{sym, refl, ap, ◌∙◌, subst}
+use Rattle.std.specs.List.{slice_get}
+use Rattle.heap.specs.Waiting.{waiting, Peeked}
 use Rattle.heap.proofs.Sifting.{lawful}
-use Rattle.heap.proofs.Slots.{front}
+use Rattle.heap.proofs.Slots.{looked}
 use Rattle.heap.proofs.heap.Heap.peek.Goals as goal
 
-pub returns-then-self-gt0 : goal.returns-then-self-gt0
-returns-then-self-gt0 g c =
-    let law = lawful g.E.Key.Order.before g.E.Entry.keyed g.met.E.Key.Order.asymmetric g.met.E.Key.Order.chains in
+pub returns : goal.returns
+returns g c =
+    let law = lawful g.E.Key.Ord.cmp g.E.Entry.keyed g.met.E.Key.Ord.total in
     let h = c.args.self.now in
-    front (by_key g.E.Key.Order.before g.E.Entry.keyed) law h.slots.now h.len _ (omega arith) c.requires.fits c.requires.tree
+    subst (Peeked _ h)
+    (sym (c.copied.ensures ∙ c.first.ensures.value ∙ ap (λ xs. slice_get xs 0) c.waiting.ensures))
+    (looked _ law h (waiting h) refl h.tree)

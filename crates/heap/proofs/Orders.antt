@@ -1,0 +1,37 @@
+-- What comes before what is an order, by the laws of `cmp`. Assumes nothing.
+use Rattle.std.proofs.Common.{◌≡◌, true, false, true≢false, sym, refl, ap, ◌∙◌, Ordering, Less, Equal, Greater}
+use Rattle.std.specs.Cmp.{IsTotalOrder}
+use Rattle.std.specs.Ordering.{is_lt, is_gt, ordering_reverse}
+use Rattle.std.proofs.lemmas.Cmp.{upto}
+use Rattle.heap.specs.Trees.{below}
+
+module _ {K : Type 0} (cmp : K → K → Ordering) (total : IsTotalOrder cmp) where
+  turned : (a b : K) → below cmp a b ≡ is_gt (cmp b a)
+  turned a b = ap is_lt (total.antisymm a b) ∙ back (cmp b a)
+    where
+      back : (r : Ordering) → is_lt (ordering_reverse r) ≡ is_gt r
+      back Less = refl
+      back Equal = refl
+      back Greater = refl
+
+  -- no two keys are before each other
+  pub asymmetric : (a b : K) → below cmp a b ≡ true → below cmp b a ≡ false
+  asymmetric a b h = one_way (cmp b a) (sym (turned a b) ∙ h)
+    where
+      one_way : (r : Ordering) → is_gt r ≡ true → is_lt r ≡ false
+      one_way Less h = absurd (true≢false (sym h))
+      one_way Equal h = refl
+      one_way Greater h = refl
+
+  -- what is not before passes on
+  pub chains : (a b c : K) → below cmp b a ≡ false → below cmp c b ≡ false → below cmp c a ≡ false
+  chains a b c h k = turned c a ∙ upto total a b c (sym (turned b a) ∙ h) (sym (turned c b) ∙ k)
+
+  -- where keys that `cmp` finds equal are the same, different keys never tie
+  pub apart : ((a b : K) → cmp a b ≡ Equal → a ≡ b) → (a b : K) → below cmp a b ≡ false → below cmp b a ≡ false → a ≡ b
+  apart same a b h k = same a b (level (cmp a b) h (sym (turned b a) ∙ k))
+    where
+      level : (r : Ordering) → is_lt r ≡ false → is_gt r ≡ false → r ≡ Equal
+      level Less h k = absurd (true≢false h)
+      level Equal h k = refl
+      level Greater h k = absurd (true≢false k)

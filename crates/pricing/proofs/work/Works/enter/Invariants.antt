@@ -1,0 +1,6 @@
+use Rattle.heap.specs.Waiting.{waiting, SameSlots}
+use Rattle.pricing.specs.Steps.{Entered}
+use Rattle.pricing.proofs.work.Works.enter.Given as goal
+
+abbrev pub invariant-loop-number : goal.invariant-loop-number
+invariant-loop-number l = SameSlots l.initial.coming l.coming × Entered l.self.entries.items l.number (waiting l.coming) l.left
