@@ -6,7 +6,8 @@
 #![tactic(auto)]
 
 pub mod judging;
+pub mod table;
 pub mod tables;
 
-pub use judging::judge;
+pub use table::Table;
 pub use tables::{floor, free_price, pinned_price, releases};
