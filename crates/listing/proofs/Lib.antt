@@ -1,7 +1,7 @@
-mod Spelling
-mod Lengths
 pub mod Placing
 pub mod Unique
+mod Lengths
+mod Made
 mod Rows
 mod Tables
 pub mod Floors
