@@ -8,9 +8,6 @@ loop-range-init g c = going_none _ _ _ _ c.requires
 pub write_range-requires : goal.write_range-requires
 write_range-requires g c = going_room _ _ g.met.W.Sink.both g.met.W.Sink.rest _ _ _ _ c.loop-range.invariant _ c.in-Some.ensures
 
-pub overflow_add-from : goal.overflow_add-from
-overflow_add-from g c = omega (arith, leads_low _ _ _ _ (g.met.S.Store.bounded c.args.store.now) c.in-Some.ensures)
-
 pub loop-range-preserved : goal.loop-range-preserved
 loop-range-preserved g c =
     let h = c.in-Some.ensures in

@@ -1,9 +1,6 @@
 use Rattle.listing.proofs.Tables.{lining_none, lining_room, lining_more, lining_all}
 use Rattle.listing.proofs.row_lines.write_rows.Goals as goal
 
-pub loop-row-init : goal.loop-row-init
-loop-row-init g c = lining_none _ _ _ _ _ c.requires
-
 pub write_row-requires : goal.write_row-requires
 write_row-requires g c = lining_room _ _ _ _ _ _ _ c.loop-row.invariant c.loop-row-test.true
 
