@@ -1,8 +1,8 @@
 pub mod Placing
 pub mod Unique
 mod Lengths
-mod Made
 mod Rows
+mod Made
 mod Tables
 pub mod Floors
 pub mod Listings

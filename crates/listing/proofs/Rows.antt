@@ -1,6 +1,7 @@
 -- Going through the ranges of a row, to write them. Assumes nothing.
-use Rattle.std.proofs.Common.{◌≡◌, ℕ, ◌+◌, ◌<◌, ◌≤◌, Bool, List, [], ◌∷◌, ◌++◌, length, None, sym, ap, ◌∙◌, subst, arith, length-append}
-use Rattle.stores.specs.Sets.{Rows, Bounded, First}
+use Rattle.std.proofs.Common.{◌≡◌, ℕ, ◌+◌, ◌-◌, ◌<◌, ◌≤◌, Bool, true, false, List, [], ◌∷◌, ◌++◌, length, Some, None, Option, MatchOption, unwrap_or, sym, ap, ◌∙◌, subst, ⊎_elim, arith, length-append}
+use Rattle.std.proofs.lemmas.Bool.{cases_Bool, cases_lt}
+use Rattle.stores.specs.Sets.{Rows, Bounded, Earliest, First}
 use Rattle.listing.specs.declared.range.Range.{Range}
 use Rattle.listing.specs.Placing.{Fits, Writes}
 use Rattle.listing.specs.Ranges.{Leads, Ranges}
@@ -11,6 +12,24 @@ use Rattle.listing.proofs.Unique.{leads_same, leads_none, ranges_same}
 -- a range ends below 256
 pub leads_low : (R : Rows) (i from : ℕ) (r : Range) → Bounded R → Leads (R i) from r → r.last < 256
 leads_low R i from r b p = (b i r.last (p.unbroken r.last p.rises (omega arith))).1
+
+-- nothing is in a row from 256 on
+pub high_out : (R : Rows) (i : ℕ) → Bounded R → (t : ℕ) → 256 ≤ t → R i t ≡ false
+high_out R i b t h = ⊎_elim (λ (e : R i t ≡ true). absurd (let l = (b i t e).1 in omega arith)) (λ (e : R i t ≡ false). e) (cases_Bool (R i t))
+
+-- a range ends before the first later start that is out of the row
+pub range_to : (f : ℕ → Bool) (from first n : ℕ) → Earliest f from first → first < n → f n ≡ false → ((t : ℕ) → first + 1 ≤ t → t < n → f t ≡ true) → Leads f from (record { first = first; last = n - 1 })
+range_to f from first n e l off on = record {
+  begins = e;
+  rises = omega arith;
+  unbroken = λ t p q. ⊎_elim (λ (m : first < t). on t (omega arith) (omega arith)) (λ (m : t ≤ first). let s : t ≡ first = omega arith in ap f s ∙ e.held) (cases_lt first t);
+  ends = let s : n - 1 + 1 ≡ n = omega arith in ap f s ∙ off;
+}
+
+-- that start, where it is looked for up to 255
+pub found_range : (R : Rows) (i : ℕ) → Bounded R → (from first : ℕ) → Earliest (R i) from first → (r : Option ℕ) → MatchOption r ((t : ℕ) → first + 1 ≤ t → t < 256 → R i t ≡ true) (λ n. (first + 1 ≤ n) × (n < 256) × (R i n ≡ false) × ((t : ℕ) → first + 1 ≤ t → t < n → R i t ≡ true)) → (1 ≤ unwrap_or r 256) × Leads (R i) from (record { first = first; last = unwrap_or r 256 - 1 })
+found_range R i b from first e None h = let l = (b i first e.held).1 in (omega arith, range_to (R i) from first 256 e (omega arith) (high_out R i b 256 (omega arith)) h)
+found_range R i b from first e (Some n) (l, m, off, on) = (omega arith, range_to (R i) from first n e (omega arith) off on)
 
 -- the range that comes next is the first of those that are left
 head_is : (f : ℕ → Bool) (from : ℕ) (rs : List Range) (r : Range) → Ranges f from rs → Leads f from r → (ss : List Range) × (rs ≡ r ∷ ss) × Ranges f (r.last + 2) ss

@@ -7,18 +7,18 @@ ghost use Rattle.listing.specs.Ranges.{NextRange};
 use crate::numbers::{write_number, write_range};
 use crate::range::Range;
 use crate::sink::Sink;
-use stores::Store;
+use stores::{STARTS, Store};
 
 /// The first longest unbroken range of a row's starts, from the start `from` on.
 fn next_range<S: Store>(store: &S, row: usize, from: usize) -> Option<Range>
     ensures { NextRange (S.rows store.now row) from result }
 {
     let first = store.after(row, from)?;
-    let mut last = first;
-    while store.holds(row, last + 1) {
-        last += 1;
-    }
-    Some(Range { first, last })
+    let beyond = (first + 1..STARTS).find(|&start| !store.holds(row, start));
+    Some(Range {
+        first,
+        last: beyond.unwrap_or(STARTS) - 1,
+    })
 }
 
 /// Writes the ranges of a row.

@@ -1,4 +1,3 @@
-use Rattle.std.proofs.Common.{arith}
 use Rattle.listing.proofs.Rows.{leads_low, going_none, going_room, going_more, going_all}
 use Rattle.listing.proofs.row_lines.write_ranges.Goals as goal
 

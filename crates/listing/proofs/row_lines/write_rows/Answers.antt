@@ -1,4 +1,4 @@
-use Rattle.listing.proofs.Tables.{lining_none, lining_room, lining_more, lining_all}
+use Rattle.listing.proofs.Tables.{lining_room, lining_more, lining_all}
 use Rattle.listing.proofs.row_lines.write_rows.Goals as goal
 
 pub write_row-requires : goal.write_row-requires
