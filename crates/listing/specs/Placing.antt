@@ -1,4 +1,4 @@
--- What writing a text into a buffer does. Assumes nothing.
+-- What writing a text does: to a buffer, and to anything that takes its bytes. Assumes nothing.
 use Rattle.std.specs.Prelude.{◌≡◌, ℕ, ◌+◌, ◌≤◌, List, ◌++◌, length, take, drop}
 
 -- the buffer `was` becomes `is`: the text stands from `at` to `end`, and all else is as it was
@@ -12,10 +12,10 @@ pub record Placed (was : List ℕ) (at : ℕ) (text is : List ℕ) (end : ℕ) :
 abbrev pub Long : (List ℕ → Type 0) → ℕ → Type 0
 Long P n = (text : List ℕ) × P text × (n ≡ length text)
 
--- a buffer of the given size has room from `at` on for a text of which P holds
-abbrev pub Fits : (List ℕ → Type 0) → ℕ → ℕ → Type 0
-Fits P at size = (text : List ℕ) × P text × (at + length text ≤ size)
+-- a text of which P holds has room in `room` bytes
+abbrev pub Fits : (List ℕ → Type 0) → ℕ → Type 0
+Fits P room = (text : List ℕ) × P text × (length text ≤ room)
 
--- whatever text P holds of, it is placed
-abbrev pub Writes : (List ℕ → Type 0) → List ℕ → ℕ → List ℕ → ℕ → Type 0
-Writes P was at is end = (text : List ℕ) → P text → Placed was at text is end
+-- whatever text P holds of, it is taken
+abbrev pub Writes : (List ℕ → Type 0) → (List ℕ → Type 0) → Type 0
+Writes P taken = (text : List ℕ) → P text → taken text
