@@ -2,9 +2,9 @@
 pub mod Walks
 pub mod Posting
 pub mod Marks
--- What each call means; how histories go on.
-mod Taking
+-- How histories go on; what keep and undo come to.
 pub mod Going
+mod Closing
 -- Cutting a table down.
 pub mod Rounds
 -- The list of cuts.

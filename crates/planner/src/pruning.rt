@@ -26,7 +26,7 @@ impl<S: Store> Planner<S> {
             pour(&mut self.store, &gone);
             return Err(PlannerRefusal::Hopeless);
         }
-        note(&mut self.levels, self.depth, &gone);
+        note(&mut self.levels, &gone);
         Ok(list_cuts(&gone, tickets, cuts))
     }
 }

@@ -37,4 +37,4 @@ returns g c =
     let p = c.args.self.now in
     goes_on R p _ _ _ refl (takes
     (ban_free (setting_of p) (state_of R p) c.args.ticket c.args.start (omega (arith, ap length c.tickets.ensures)) (sym c.if-not-holds.ensures) (omega (arith, c.size.ensures)))
-    (bans (state_same c.cut.ensures.table refl (marks_kept _ _ _ _ _ _ _ c.empty-gone.ensures c.cut.ensures.out c.note.ensures) refl)))
+    (bans (state_same c.cut.ensures.table refl (marks_kept _ _ _ _ _ _ c.empty-gone.ensures c.cut.ensures.out c.note.ensures) refl)))

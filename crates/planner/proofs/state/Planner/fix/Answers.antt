@@ -26,4 +26,4 @@ returns g c =
     let p = c.args.self.now in
     goes_on R p _ _ _ refl (takes
     (fix_free (setting_of p) (state_of R p) c.args.ticket c.args.start (omega (arith, ap length c.tickets.ensures)) (sym c.if-not-holds.ensures))
-    (fixes (state_same c.cut_others.ensures.table refl (marks_kept _ _ _ _ _ _ _ c.empty-gone.ensures c.cut_others.ensures.out c.note.ensures) refl)))
+    (fixes (state_same c.cut_others.ensures.table refl (marks_kept _ _ _ _ _ _ c.empty-gone.ensures c.cut_others.ensures.out c.note.ensures) refl)))

@@ -1,4 +1,4 @@
-use Rattle.std.proofs.Common.{◌≡◌, ◌*◌, length, refl, ap, ◌∙◌, subst, arith, rules}
+use Rattle.std.proofs.Common.{◌≡◌, ◌*◌, length, reverse, refl, ap, ◌∙◌, subst, arith, rules}
 use Rattle.stores.specs.Sets.{Rows}
 use Rattle.stores.specs.BitRows.{bit_rows}
 use Rattle.runs.specs.Planner.{prunes, takes, refuses}
@@ -34,7 +34,7 @@ returns-then-not-settle g c =
     promised R p _ cuts _ cuts refl
     (refuses
     (prune_21 w (state_of R p) (length cuts) (omega (arith, all, ap length c.tickets-tickets.ensures)) c.if-not-settle.ensures.done)
-    (state_same back refl (ap (λ (T : Rows). at_marks T p.levels p.depth) back) refl))
+    (state_same back refl (ap (λ (T : Rows). at_marks T (reverse p.levels.items)) back) refl))
     refl
 
 pub list_cuts-requires : goal.list_cuts-requires
@@ -70,5 +70,5 @@ returns g c =
     (takes
     (prune_free w (state_of R p) (length cuts) (omega (arith, all, ap length c.tickets-tickets.ensures)) (λ none. none Q best.itself best.within))
     (prunes Q best (omega (arith, many, cuts_many w p.ceiling (R p.store) G Q H c.empty-gone.ensures trim))
-    (state_same refl refl (marks_kept _ _ _ _ _ _ _ c.empty-gone.ensures trim.out c.note.ensures) refl)))
+    (state_same refl refl (marks_kept _ _ _ _ _ _ c.empty-gone.ensures trim.out c.note.ensures) refl)))
     (cuts_listed w p.ceiling (R p.store) G Q H c.empty-gone.ensures trim _ cuts c.list_cuts.new.cuts c.list_cuts.result words)
