@@ -3,7 +3,7 @@
 #![tactic(auto)]
 
 use anyhow::anyhow;
-use pricing::{free_price, pinned_price};
+use pricing::Released;
 use std::io::Read;
 use tickets::{Collection, Terms};
 
@@ -88,13 +88,17 @@ fn posted(numbers: &mut Numbers, collection: &mut Collection) -> anyhow::Result<
 fn compare_day(numbers: &mut Numbers, tally: &mut Tally) -> anyhow::Result<()> {
     let mut collection = Collection::new();
     let releases = posted(numbers, &mut collection)?;
-    tally.compare(free_price(&collection, &releases), numbers.next()?);
+    let released = Released {
+        collection: &collection,
+        releases,
+    };
+    tally.compare(released.free_price(), numbers.next()?);
     let pins = numbers.next()?;
     for _ in 0..pins {
         let ticket = numbers.byte()? as usize;
         let start = numbers.byte()? as usize;
         let other = numbers.next()?;
-        match pinned_price(&collection, &releases, ticket, start) {
+        match released.pinned_price(ticket, start) {
             Ok(price) => tally.compare(price, other),
             Err(_) => return Err(anyhow!("a pinned price is refused")),
         }

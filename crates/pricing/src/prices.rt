@@ -10,10 +10,17 @@ use crate::work::Work;
 use tickets::{Collection, PlannerRefusal, Ticket};
 
 /// The last slot in which a ticket can start.
-const LAST_START: usize = 255;
+pub const LAST_START: usize = 255;
 
 /// A price of this much is a cost of one.
-const PRICE_OF_ONE: u64 = 720720;
+pub const PRICE_OF_ONE: u64 = 720720;
+
+/// The tickets of a collection, each with a release. The releases past the last ticket have no meaning.
+#[derive(Clone, Copy)]
+pub struct Released<'a> {
+    pub collection: &'a Collection,
+    pub releases: [u8; 24],
+}
 
 /// The working entries of the tickets, none of them pinned.
 fn working_entries(tickets: &[Ticket], releases: &[u8; 24]) -> [Work; 24]
@@ -38,51 +45,52 @@ fn working_entries(tickets: &[Ticket], releases: &[u8; 24]) -> [Work; 24]
     entries
 }
 
-/// The least price of a spread of the tickets.
-pub fn free_price(collection: &Collection, releases: &[u8; 24]) -> u64
-    ensures { LeastPrice (posted collection.now) releases.now result }
-{
-    let tickets = collection.tickets();
-    let entries = working_entries(tickets, releases);
-    build(&entries[0..tickets.len()])
-}
-
-/// The least price of a spread in which the ticket has the slots from `start` on, whatever its release. Refused
-/// where no ticket has this number, and then where the start is past 255.
-pub fn pinned_price(
-    collection: &Collection,
-    releases: &[u8; 24],
-    ticket: usize,
-    start: usize,
-) -> Result<u64, PlannerRefusal>
-    ensures { PinnedAnswer (posted collection.now) releases.now ticket start result }
-{
-    let tickets = collection.tickets();
-    if ticket >= tickets.len() {
-        return Err(PlannerRefusal::NoSuchTicket);
+impl<'a> Released<'a> {
+    /// The tickets as posted: each is released at its first start, and the numbers that no ticket has at 0.
+    pub fn as_posted(collection: &'a Collection) -> Released<'a>
+        ensures same { result.collection.now ≡ collection.now }
+        ensures releases { result.releases ≡ first_starts (posted collection.now) }
+    {
+        let tickets = collection.tickets();
+        let mut releases = [0u8; 24];
+        for i in 0..tickets.len() {
+            releases[i] = tickets[i].first;
+        }
+        Released {
+            collection,
+            releases,
+        }
     }
-    if start > LAST_START {
-        return Err(PlannerRefusal::NoSuchStart);
-    }
-    let mut entries = working_entries(tickets, releases);
-    Ok(build_pinned(&mut entries[0..tickets.len()], ticket, start as u8))
-}
 
-/// The free price divided by 720720, rounded up.
-pub fn floor(collection: &Collection, releases: &[u8; 24]) -> u64
-    ensures { Floor (posted collection.now) releases.now result }
-{
-    free_price(collection, releases).div_ceil(PRICE_OF_ONE)
-}
-
-/// The releases of the rows as posted: the first start of each ticket, and 0 for the numbers that no ticket has.
-pub fn posted_releases(collection: &Collection) -> [u8; 24]
-    ensures { result ≡ first_starts (posted collection.now) }
-{
-    let tickets = collection.tickets();
-    let mut releases = [0u8; 24];
-    for i in 0..tickets.len() {
-        releases[i] = tickets[i].first;
+    /// The least price of a spread of the tickets.
+    pub fn free_price(&self) -> u64
+        ensures { LeastPrice (posted self.now.collection.now) self.now.releases result }
+    {
+        let tickets = self.collection.tickets();
+        let entries = working_entries(tickets, &self.releases);
+        build(&entries[0..tickets.len()])
     }
-    releases
+
+    /// The least price of a spread in which the ticket has the slots from `start` on, whatever its release. Refused
+    /// where no ticket has this number, and then where the start is past 255.
+    pub fn pinned_price(&self, ticket: usize, start: usize) -> Result<u64, PlannerRefusal>
+        ensures { PinnedAnswer (posted self.now.collection.now) self.now.releases ticket start result }
+    {
+        let tickets = self.collection.tickets();
+        if ticket >= tickets.len() {
+            return Err(PlannerRefusal::NoSuchTicket);
+        }
+        if start > LAST_START {
+            return Err(PlannerRefusal::NoSuchStart);
+        }
+        let mut entries = working_entries(tickets, &self.releases);
+        Ok(build_pinned(&mut entries[0..tickets.len()], ticket, start as u8))
+    }
+
+    /// The free price divided by 720720, rounded up.
+    pub fn floor(&self) -> u64
+        ensures { Floor (posted self.now.collection.now) self.now.releases result }
+    {
+        self.free_price().div_ceil(PRICE_OF_ONE)
+    }
 }

@@ -1,68 +1,58 @@
 //! The releases of a table, and the prices with them.
+ghost use Rattle.std.specs.Prelude.{◌≡◌, IfSome, option_map};
 ghost use Rattle.tickets.specs.Collections.{posted};
 ghost use Rattle.queries.specs.TablePrices.{Released, FreeAnswer, PinnedAnswer, FloorAnswer};
 
+use crate::table::Table;
+use pricing::LAST_START;
 use stores::Store;
-use tickets::{Collection, PlannerRefusal};
+use tickets::PlannerRefusal;
 
-/// The last slot in which a ticket can start.
-const LAST_START: usize = 255;
-
-/// The first start of each ticket's row, and 0 for the numbers that no ticket has. There are none where some
-/// ticket's row is empty.
-pub fn releases<S: Store>(collection: &Collection, store: &S) -> Option<[u8; 24]>
-    ensures { Released (posted collection.now) (S.rows store.now) result }
-{
-    let tickets = collection.tickets();
-    let mut releases = [0u8; 24];
-    for i in 0..tickets.len() {
-        let Some(start) = store.after(i, 0) else {
-            return None;
-        };
-        releases[i] = start as u8;
+impl<'a, S: Store> Table<'a, S> {
+    /// The tickets, each released at the first start of its row, and the numbers that no ticket has at 0. There are
+    /// none where some ticket's row is empty.
+    pub fn released(&self) -> Option<pricing::Released<'a>>
+        ensures same { IfSome result (λ r. r.collection.now ≡ self.now.collection.now) }
+        ensures releases { Released (posted self.now.collection.now) (S.rows self.now.store.now) (option_map (λ r. r.releases) result) }
+    {
+        let mut releases = [0u8; 24];
+        for i in 0..self.collection.tickets().len() {
+            releases[i] = self.store.after(i, 0)? as u8;
+        }
+        Some(pricing::Released {
+            collection: self.collection,
+            releases,
+        })
     }
-    Some(releases)
-}
 
-/// The least price of a spread with the releases of the table. There is none where some ticket's row is empty.
-pub fn free_price<S: Store>(collection: &Collection, store: &S) -> Option<u64>
-    ensures { FreeAnswer (posted collection.now) (S.rows store.now) result }
-{
-    let first = releases(collection, store)?;
-    Some(pricing::free_price(collection, &first))
-}
+    /// The least price of a spread with the releases of the table. There is none where some ticket's row is empty.
+    pub fn free_price(&self) -> Option<u64>
+        ensures { FreeAnswer (posted self.now.collection.now) (S.rows self.now.store.now) result }
+    {
+        Some(self.released()?.free_price())
+    }
 
-/// The least price of a spread in which the ticket has the slots from `start` on, and the other tickets have the
-/// releases of the table. There is none where some ticket's row is empty.
-pub fn pinned_price<S: Store>(
-    collection: &Collection,
-    store: &S,
-    ticket: usize,
-    start: usize,
-) -> Result<Option<u64>, PlannerRefusal>
-    ensures { PinnedAnswer (posted collection.now) (S.rows store.now) ticket start result }
-{
-    if ticket >= collection.tickets().len() {
-        return Err(PlannerRefusal::NoSuchTicket);
+    /// The least price of a spread in which the ticket has the slots from `start` on, and the other tickets have the
+    /// releases of the table. There is none where some ticket's row is empty.
+    pub fn pinned_price(&self, ticket: usize, start: usize) -> Result<Option<u64>, PlannerRefusal>
+        ensures { PinnedAnswer (posted self.now.collection.now) (S.rows self.now.store.now) ticket start result }
+    {
+        if ticket >= self.collection.tickets().len() {
+            return Err(PlannerRefusal::NoSuchTicket);
+        }
+        if start > LAST_START {
+            return Err(PlannerRefusal::NoSuchStart);
+        }
+        match self.released() {
+            Some(released) => released.pinned_price(ticket, start).map(Some),
+            None => Ok(None),
+        }
     }
-    if start > LAST_START {
-        return Err(PlannerRefusal::NoSuchStart);
-    }
-    let Some(first) = releases(collection, store) else {
-        return Ok(None);
-    };
-    match pricing::pinned_price(collection, &first, ticket, start) {
-        Ok(price) => Ok(Some(price)),
-        Err(refusal) => Err(refusal),
-    }
-}
 
-/// The free price in costs, rounded up; 0 where some ticket's row is empty.
-pub fn floor<S: Store>(collection: &Collection, store: &S) -> u64
-    ensures { FloorAnswer (posted collection.now) (S.rows store.now) result }
-{
-    let Some(first) = releases(collection, store) else {
-        return 0;
-    };
-    pricing::floor(collection, &first)
+    /// The free price in costs, rounded up; 0 where some ticket's row is empty.
+    pub fn floor(&self) -> u64
+        ensures { FloorAnswer (posted self.now.collection.now) (S.rows self.now.store.now) result }
+    {
+        self.released().map_or(0, |released| released.floor())
+    }
 }

@@ -6,7 +6,7 @@ use Rattle.spreads.specs.Pinned.{LeastPinned}
 use Rattle.pricing.specs.Prices.{meaning}
 use Rattle.pricing.proofs.Making.{pinned_made}
 use Rattle.pricing.proofs.Posting.{few_posted}
-use Rattle.pricing.proofs.prices.pinned_price.Goals as goal
+use Rattle.pricing.proofs.prices.Released.pinned_price.Goals as goal
 
 clear : (ts : List Ticket) (i t : ℕ) → i < length ts → t ≤ 255 → Clear meaning (record { tickets = ts; ticket = i; start = t })
 clear ts i t h k NoSuchTicket m = omega arith
@@ -23,7 +23,7 @@ clear ts i t h k Hopeless m = m
 
 pub returns : goal.returns
 returns c =
-    let rs = c.args.releases.now in
+    let rs = c.args.self.now.releases in
     let i = c.args.ticket in
     let t = c.args.start in
     let p = c.build_pinned.result in
@@ -31,5 +31,5 @@ returns c =
     let n = ap length e in (
       clear _ i t (omega arith) (omega arith),
       subst (λ (ts : List Ticket). LeastPinned ts rs i t p) e
-          (pinned_made c.tickets-tickets.result.now rs c.working_entries-entries.result _ (omega (arith, few_posted c.args.collection.now)) c.working_entries-entries.ensures (omega arith) i t p (omega arith) c.build_pinned.ensures.price),
+          (pinned_made c.tickets-tickets.result.now rs c.working_entries-entries.result _ (omega (arith, few_posted c.args.self.now.collection.now)) c.working_entries-entries.ensures (omega arith) i t p (omega arith) c.build_pinned.ensures.price),
     )
