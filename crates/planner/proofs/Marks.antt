@@ -8,6 +8,8 @@ use Rattle.stores.specs.BitRows.{bit_rows}
 use Rattle.stores.specs.declared.bit_store.BitStore.{BitStore}
 use Rattle.runs.specs.Planner.{State}
 use Rattle.planner.specs.Sets.{union, Out}
+use Rattle.planner.specs.declared.cutting.Cutting.{Cutting}
+use Rattle.planner.specs.Cuttings.{Cuts}
 use Rattle.planner.specs.Levels.{at_marks}
 use Rattle.planner.proofs.Walks.{out_back}
 
@@ -46,3 +48,9 @@ pub marks_kept :
     at_marks Q sets' ≡ at_marks R sets
 marks_kept R G Q H sets sets' none out noted =
     noted Q ∙ ap (λ (T : Rows). at_marks T sets) (out_back R G Q H (λ i t. ap (λ (T : Rows). T i t) none) out)
+
+-- what was cut out of s was noted: the tables at the marks are as they were
+pub marks_cut :
+    {S : Type 0} (rows : S → Rows) (s : S) (c d : Cutting S) (sets sets' : List BitStore) → c.store.now ≡ s → bit_rows c.gone ≡ no_starts → Cuts rows c d →
+    ((T : Rows) → at_marks T sets' ≡ at_marks (union T (bit_rows d.gone)) sets) → at_marks (rows d.store.now) sets' ≡ at_marks (rows s) sets
+marks_cut rows s c d sets sets' same none cuts noted = marks_kept _ _ _ _ sets sets' none cuts.out noted ∙ ap (λ x. at_marks (rows x) sets) same

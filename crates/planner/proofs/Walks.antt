@@ -5,7 +5,6 @@ use Rattle.std.proofs.lemmas.Bool.{cases_Bool, cases_eq, cases_lt}
 use Rattle.std.proofs.lemmas.Bool.Decides.{nat_tests}
 use Rattle.stores.specs.Sets.{Rows, Bounded, without, with, Earliest}
 use Rattle.stores.proofs.Moves.{held_inside}
-use Rattle.runs.specs.Orders.{fixed}
 use Rattle.planner.specs.Sets.{union, only_row, without_row, range_of, Out}
 use Rattle.planner.specs.Words.{rows_below}
 
@@ -68,82 +67,6 @@ below_more R G Q N row q n = n ∙ fun_ext (λ i. fun_ext (λ t.
 pub below_all : (R G : Rows) (n : ℕ) → Bounded G → 24 ≤ n → union R (rows_below G n) ≡ union R G
 below_all R G n b l = fun_ext (λ i. fun_ext (λ t.
     ⊎_elim (λ (on : G i t ≡ true). let (in_row, _) = b i t on in grind (arith, nat_tests)) (λ (off : G i t ≡ false). grind (arith, nat_tests)) (cases_Bool (G i t))))
-
--- ---- a row that sheds the starts before `next`, but those to be kept
-
-abbrev pub shed : Rows → ℕ → (ℕ → Bool) → ℕ → Rows
-shed R row keep next i t = R i t && (not (eqb i row) || (not (ltb t next) || keep t))
-
-pub shed_none : (R : Rows) (row : ℕ) (keep : ℕ → Bool) → R ≡ shed R row keep 0
-shed_none R row keep = fun_ext (λ i. fun_ext (λ t. grind (arith, nat_tests)))
-
--- what stands at the row's next start decides what becomes of the row up to there
-shed_step :
-    (R Q : Rows) (row : ℕ) (keep : ℕ → Bool) (next v i t : ℕ) → Earliest (Q row) next v → Q ≡ shed R row keep next → (t ≡ v → i ≡ row → ⊥) →
-    Q i t ≡ shed R row keep (v + 1) i t
-shed_step R Q row keep next v i t e q off =
-    let reached = e.reached in
-    let was : Q i t ≡ shed R row keep next i t = ap (λ (T : Rows). T i t) q in
-    ⊎_elim
-    (λ (same : i ≡ row).
-    ⊎_elim
-    (λ (l : t < next). grind (arith, nat_tests))
-    (λ (l : next ≤ t).
-    ⊎_elim
-    (λ (m : t < v). let none : Q i t ≡ false = ap (λ j. Q j t) same ∙ e.gap t l m in grind (arith, nat_tests))
-    (λ (m : v ≤ t). ⊎_elim (λ (at : t ≡ v). absurd (off at same)) (λ (at : t ≡ v → ⊥). grind (arith, nat_tests)) (cases_eq t v))
-    (cases_lt t v))
-    (cases_lt t next))
-    (λ (other : i ≡ row → ⊥). grind (arith, nat_tests))
-    (cases_eq i row)
-
-pub shed_stay : (R Q : Rows) (row : ℕ) (keep : ℕ → Bool) (next v : ℕ) → keep v ≡ true → Earliest (Q row) next v → Q ≡ shed R row keep next → Q ≡ shed R row keep (v + 1)
-shed_stay R Q row keep next v stay e q = fun_ext (λ i. fun_ext (λ t.
-    ⊎_elim
-    (λ (at : t ≡ v).
-    let kept : keep t ≡ true = ap keep at ∙ stay in
-    let reached = e.reached in
-    let was : Q i t ≡ shed R row keep next i t = ap (λ (T : Rows). T i t) q in
-    grind (arith, nat_tests))
-    (λ (at : t ≡ v → ⊥). shed_step R Q row keep next v i t e q (λ z _. at z))
-    (cases_eq t v)))
-
-pub shed_cut :
-    (R Q N : Rows) (row : ℕ) (keep : ℕ → Bool) (next v : ℕ) → keep v ≡ false → Earliest (Q row) next v → Q ≡ shed R row keep next →
-    N ≡ without Q row v → N ≡ shed R row keep (v + 1)
-unfolding without
-shed_cut R Q N row keep next v go e q n = n ∙ fun_ext (λ i. fun_ext (λ t.
-    ⊎_elim
-    (λ (at : t ≡ v).
-    let out : keep t ≡ false = ap keep at ∙ go in
-    let reached = e.reached in
-    let was : Q i t ≡ shed R row keep next i t = ap (λ (T : Rows). T i t) q in
-    grind (arith, nat_tests))
-    (λ (at : t ≡ v → ⊥). let same = shed_step R Q row keep next v i t e q (λ z _. at z) in grind (arith, nat_tests))
-    (cases_eq t v)))
-
-shed_end :
-    (R Q : Rows) (row : ℕ) (keep : ℕ → Bool) (next : ℕ) → ((t : ℕ) → next ≤ t → Q row t ≡ false) → Q ≡ shed R row keep next →
-    (i t : ℕ) → Q i t ≡ (R i t && (not (eqb i row) || keep t))
-shed_end R Q row keep next none q i t =
-    let was : Q i t ≡ shed R row keep next i t = ap (λ (T : Rows). T i t) q in
-    ⊎_elim
-    (λ (same : i ≡ row).
-    ⊎_elim
-    (λ (l : t < next). grind (arith, nat_tests))
-    (λ (l : next ≤ t). let off : Q i t ≡ false = ap (λ j. Q j t) same ∙ none t l in grind (arith, nat_tests))
-    (cases_lt t next))
-    (λ (other : i ≡ row → ⊥). grind (arith, nat_tests))
-    (cases_eq i row)
-
--- none is kept
-pub shed_empty : (R Q : Rows) (row next : ℕ) → ((t : ℕ) → next ≤ t → Q row t ≡ false) → Q ≡ shed R row (λ _. false) next → Q ≡ without_row R row
-shed_empty R Q row next none q = fun_ext (λ i. fun_ext (λ t. shed_end R Q row (λ _. false) next none q i t ∙ (grind (arith, nat_tests))))
-
--- one is kept
-pub shed_fixed : (R Q : Rows) (row stay next : ℕ) → ((t : ℕ) → next ≤ t → Q row t ≡ false) → Q ≡ shed R row (λ t. eqb t stay) next → Q ≡ fixed R row stay
-unfolding fixed
-shed_fixed R Q row stay next none q = fun_ext (λ i. fun_ext (λ t. shed_end R Q row (λ u. eqb u stay) next none q i t))
 
 -- ---- filling
 

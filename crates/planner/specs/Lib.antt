@@ -1,4 +1,5 @@
 pub mod Sets
+pub mod Cuttings
 pub mod Levels
 pub mod States
 pub mod Closing

@@ -4,8 +4,9 @@ ghost use Rattle.planner.specs.States.{done, opened, closed, HandedBack};
 ghost use Rattle.planner.specs.Calls.{Moved};
 ghost use Rattle.planner.specs.Closing.{Closed};
 
+use crate::cutting::Cutting;
 use crate::levels::note;
-use crate::sets::{cut, cut_others, pour};
+use crate::sets::pour;
 use crate::state::Planner;
 use crate::token::{Token, TokenRefused};
 use stores::{BitStore, Store};
@@ -25,9 +26,9 @@ impl<S: Store> Planner<S> {
         if self.store.size(ticket) <= 1 {
             return Err(PlannerRefusal::OnlyStart);
         }
-        let mut gone = BitStore::empty();
-        cut(&mut self.store, &mut gone, ticket, start);
-        note(&mut self.levels, &gone);
+        let mut cutting = Cutting::of(&mut self.store);
+        cutting.cut(ticket, start);
+        note(&mut self.levels, &cutting.gone);
         Ok(())
     }
 
@@ -41,9 +42,9 @@ impl<S: Store> Planner<S> {
         if !self.store.holds(ticket, start) {
             return Err(PlannerRefusal::NoSuchStart);
         }
-        let mut gone = BitStore::empty();
-        cut_others(&mut self.store, &mut gone, ticket, start);
-        note(&mut self.levels, &gone);
+        let mut cutting = Cutting::of(&mut self.store);
+        cutting.retain(ticket, |other| other == start);
+        note(&mut self.levels, &cutting.gone);
         Ok(())
     }
 

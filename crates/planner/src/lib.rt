@@ -9,6 +9,7 @@
 
 mod calls;
 mod cuts;
+mod cutting;
 mod filling;
 mod levels;
 mod pruning;
@@ -17,7 +18,6 @@ mod sealing;
 mod sets;
 pub mod state;
 pub mod token;
-mod trimmed;
 mod trimming;
 
 pub use state::Planner;

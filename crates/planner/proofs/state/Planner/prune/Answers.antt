@@ -7,6 +7,8 @@ use Rattle.planner.specs.Levels.{at_marks}
 use Rattle.planner.specs.Words.{rows_below, Words}
 use Rattle.planner.specs.States.{setting_of, state_of}
 use Rattle.planner.proofs.Marks.{state_same, marks_kept}
+use Rattle.planner.proofs.Rounds.{settled_some, settled_nothing}
+use Rattle.runs.proofs.Supports.{laws}
 use Rattle.planner.proofs.Prunes.{counted, cuts_back, cuts_many, cuts_room, cuts_listed, promised}
 use Rattle.planner.proofs.state.Planner.prune.Goals as goal
 
@@ -20,20 +22,20 @@ returns-then-cuts-tickets g c =
     (refuses (prune_17 (setting_of p) (state_of R p) (length cuts) (omega (arith, all, ap length c.tickets-tickets.ensures))) refl)
     refl
 
-pub returns-then-not-settle : goal.returns-then-not-settle
-returns-then-not-settle g c =
+pub returns-then-is_none : goal.returns-then-is_none
+returns-then-is_none g c =
     let R = g.S.Store.rows in
     let p = c.args.self.now in
     let cuts = c.args.cuts.now in
     let w = setting_of p in
     let all = counted w (R p.store) _ _ (ap length c.tickets-tickets.ensures) c.count_starts-standing.ensures in
-    let G = bit_rows c.empty-gone.result in
-    let Q = R c.settle.new.store in
-    let H = bit_rows c.settle.new.gone in
-    let back : R c.pour.new.into ≡ R p.store = c.pour.ensures ∙ cuts_back w p.ceiling (R p.store) G Q H c.empty-gone.ensures c.settle.ensures.trim in
+    let same = c.of-cutting.ensures.store in
+    let trim = rw same at c.settle.ensures.trim in
+    let done = rw same at c.settle.ensures.done in
+    let back : R c.put_back.new.self.store.now ≡ R p.store = c.put_back.ensures.table ∙ cuts_back w p.ceiling (R p.store) _ _ _ c.of-cutting.ensures.gone trim in
     promised R p _ cuts _ cuts refl
     (refuses
-    (prune_21 w (state_of R p) (length cuts) (omega (arith, all, ap length c.tickets-tickets.ensures)) c.if-not-settle.ensures.done)
+    (prune_21 w (state_of R p) (length cuts) (omega (arith, all, ap length c.tickets-tickets.ensures)) (settled_nothing w (laws _) p.ceiling _ _ _ c.if-is_none.ensures done))
     (state_same back refl (ap (λ (T : Rows). at_marks T (reverse p.levels.items)) back) refl))
     refl
 
@@ -43,14 +45,14 @@ list_cuts-requires g c =
     let p = c.args.self.now in
     let w = setting_of p in
     let all = counted w (R p.store) _ _ (ap length c.tickets-tickets.ensures) c.count_starts-standing.ensures in
-    let G = bit_rows c.empty-gone.result in
-    let Q = R c.settle.new.store in
-    let H = bit_rows c.settle.new.gone in
-    let best = c.if-not-settle.ensures.done in
+    let same = c.of-cutting.ensures.store in
+    let trim = rw same at c.settle.ensures.trim in
+    let done = rw same at c.settle.ensures.done in
+    let best = settled_some w (laws _) p.ceiling _ _ _ c.if-is_none.ensures done in
     let room =
-    cuts_room w p.ceiling (R p.store) G Q H c.empty-gone.ensures c.settle.ensures.trim (length c.args.cuts.now)
-    (g.met.S.Store.bounded c.settle.new.store) best.itself.full (omega (arith, all, ap length c.tickets-tickets.ensures)) in
-    (search rules, omega (arith, room, counted w H _ _ (ap length c.tickets-tickets.ensures) refl))
+    cuts_room w p.ceiling (R p.store) _ _ _ c.of-cutting.ensures.gone trim (length c.args.cuts.now)
+    (g.met.S.Store.bounded c.settle.new.self.store.now) best.itself.full (omega (arith, all, ap length c.tickets-tickets.ensures)) in
+    (search rules, omega (arith, room, counted w (bit_rows c.settle.new.self.gone) _ _ (ap length c.tickets-tickets.ensures) refl))
 
 pub returns : goal.returns
 returns g c =
@@ -59,16 +61,18 @@ returns g c =
     let cuts = c.args.cuts.now in
     let w = setting_of p in
     let all = counted w (R p.store) _ _ (ap length c.tickets-tickets.ensures) c.count_starts-standing.ensures in
-    let G = bit_rows c.empty-gone.result in
-    let Q = R c.settle.new.store in
-    let H = bit_rows c.settle.new.gone in
-    let trim = c.settle.ensures.trim in
-    let best = c.if-not-settle.ensures.done in
+    let same = c.of-cutting.ensures.store in
+    let none = c.of-cutting.ensures.gone in
+    let trim = rw same at c.settle.ensures.trim in
+    let done = rw same at c.settle.ensures.done in
+    let best = settled_some w (laws _) p.ceiling _ _ _ c.if-is_none.ensures done in
+    let Q = R c.settle.new.self.store.now in
+    let H = bit_rows c.settle.new.self.gone in
     let many = counted w H _ _ (ap length c.tickets-tickets.ensures) c.list_cuts.ensures.many in
     let words = subst (λ n. Words (rows_below H n) (256 * n) cuts c.list_cuts.new.cuts c.list_cuts.result) (ap length c.tickets-tickets.ensures) c.list_cuts.ensures.words in
     promised R p _ cuts _ _ refl
     (takes
-    (prune_free w (state_of R p) (length cuts) (omega (arith, all, ap length c.tickets-tickets.ensures)) (λ none. none Q best.itself best.within))
-    (prunes Q best (omega (arith, many, cuts_many w p.ceiling (R p.store) G Q H c.empty-gone.ensures trim))
-    (state_same refl refl (marks_kept _ _ _ _ _ _ c.empty-gone.ensures trim.out c.note.ensures) refl)))
-    (cuts_listed w p.ceiling (R p.store) G Q H c.empty-gone.ensures trim _ cuts c.list_cuts.new.cuts c.list_cuts.result words)
+    (prune_free w (state_of R p) (length cuts) (omega (arith, all, ap length c.tickets-tickets.ensures)) (λ no. no Q best.itself best.within))
+    (prunes Q best (omega (arith, many, cuts_many w p.ceiling (R p.store) _ Q H none trim))
+    (state_same refl refl (marks_kept _ _ _ _ _ _ none trim.out c.note.ensures) refl)))
+    (cuts_listed w p.ceiling (R p.store) _ Q H none trim _ cuts c.list_cuts.new.cuts c.list_cuts.result words)
