@@ -1,6 +1,7 @@
 -- Rows of sets that are walked; the posted rows; the tables at the open marks.
 pub mod Walks
 pub mod Retaining
+pub mod Walking
 pub mod Posting
 pub mod Marks
 -- How histories go on; what keep and undo come to.

@@ -1,72 +1,11 @@
 -- Rows that are walked start by start, and what a walk has done so far. Assumes nothing.
-use Rattle.std.proofs.Common.{◌≡◌, ℕ, ◌+◌, ◌<◌, ◌≤◌, Bool, true, false, not, ◌&&◌, ◌||◌, eqb, ltb, leb, ap, ◌∙◌, ⊎_elim, arith}
+use Rattle.std.proofs.Common.{◌≡◌, ℕ, ◌+◌, ◌<◌, ◌≤◌, true, false, not, ◌&&◌, ◌||◌, eqb, ltb, leb, ap, ◌∙◌, ⊎_elim, arith}
 use mathlib.Core.Path.{fun_ext}
-use Rattle.std.proofs.lemmas.Bool.{cases_Bool, cases_eq, cases_lt}
+use Rattle.std.proofs.lemmas.Bool.{cases_eq, cases_lt}
 use Rattle.std.proofs.lemmas.Bool.Decides.{nat_tests}
-use Rattle.stores.specs.Sets.{Rows, Bounded, without, with, Earliest}
+use Rattle.stores.specs.Sets.{Rows, Bounded, without, with}
 use Rattle.stores.proofs.Moves.{held_inside}
-use Rattle.planner.specs.Sets.{union, only_row, without_row, range_of, Out}
-use Rattle.planner.specs.Words.{rows_below}
-
--- ---- one row of a set, up to a start
-
--- the starts of a row before `next`
-abbrev pub upto : Rows → ℕ → ℕ → Rows
-upto G row next i t = eqb i row && (ltb t next && G i t)
-
--- between `next` and the earliest start there is none
-passed : (f : ℕ → Bool) (next v t : ℕ) → Earliest f next v → t < v → ltb t next ≡ false → f t ≡ false
-passed f next v t e l past = e.gap t (grind (arith, nat_tests)) l
-
-pub upto_none : (R G : Rows) (row : ℕ) → R ≡ union R (upto G row 0)
-upto_none R G row = fun_ext (λ i. fun_ext (λ t. grind (arith, nat_tests)))
-
--- one start more is poured in
-pub upto_more : (R G Q N : Rows) (row next v : ℕ) → Bounded G → Earliest (G row) next v → Q ≡ union R (upto G row next) → N ≡ with Q row v → N ≡ union R (upto G row (v + 1))
-unfolding with
-upto_more R G Q N row next v b e q n =
-    let (in_row, in_start) = b row v e.held in
-    let reached = e.reached in
-    n ∙ fun_ext (λ i. fun_ext (λ t.
-    let was : Q i t ≡ union R (upto G row next) i t = ap (λ (T : Rows). T i t) q in
-    ⊎_elim
-    (λ (same : i ≡ row). let row_is : G i t ≡ G row t = ap (λ j. G j t) same in
-    ⊎_elim
-    (λ (at : t ≡ v). let held : G row t ≡ true = ap (G row) at ∙ e.held in grind (arith, nat_tests))
-    (λ (off : t ≡ v → ⊥).
-    ⊎_elim
-    (λ (l : t < next). grind (arith, nat_tests))
-    (λ (l : next ≤ t).
-    ⊎_elim
-    (λ (m : t < v). let none : G row t ≡ false = e.gap t l m in grind (arith, nat_tests))
-    (λ (m : v ≤ t). grind (arith, nat_tests))
-    (cases_lt t v))
-    (cases_lt t next))
-    (cases_eq t v))
-    (λ (other : i ≡ row → ⊥). grind (arith, nat_tests))
-    (cases_eq i row)))
-
--- the row's end
-pub upto_done : (R G : Rows) (row next : ℕ) → ((t : ℕ) → next ≤ t → G row t ≡ false) → union R (upto G row next) ≡ union R (only_row G row)
-upto_done R G row next none = fun_ext (λ i. fun_ext (λ t.
-    ⊎_elim
-    (λ (same : i ≡ row). let row_is : G i t ≡ G row t = ap (λ j. G j t) same in
-    ⊎_elim (λ (l : t < next). grind (arith, nat_tests)) (λ (l : next ≤ t). let off : G row t ≡ false = none t l in grind (arith, nat_tests)) (cases_lt t next))
-    (λ (other : i ≡ row → ⊥). grind (arith, nat_tests))
-    (cases_eq i row)))
-
--- ---- the rows of a set, one after the other
-
-pub below_none : (R G : Rows) → R ≡ union R (rows_below G 0)
-below_none R G = fun_ext (λ i. fun_ext (λ t. grind (arith, nat_tests)))
-
-pub below_more : (R G Q N : Rows) (row : ℕ) → Q ≡ union R (rows_below G row) → N ≡ union Q (only_row G row) → N ≡ union R (rows_below G (row + 1))
-below_more R G Q N row q n = n ∙ fun_ext (λ i. fun_ext (λ t.
-    let was : Q i t ≡ union R (rows_below G row) i t = ap (λ (T : Rows). T i t) q in grind (arith, nat_tests)))
-
-pub below_all : (R G : Rows) (n : ℕ) → Bounded G → 24 ≤ n → union R (rows_below G n) ≡ union R G
-below_all R G n b l = fun_ext (λ i. fun_ext (λ t.
-    ⊎_elim (λ (on : G i t ≡ true). let (in_row, _) = b i t on in grind (arith, nat_tests)) (λ (off : G i t ≡ false). grind (arith, nat_tests)) (cases_Bool (G i t))))
+use Rattle.planner.specs.Sets.{union, without_row, range_of, Out}
 
 -- ---- filling
 

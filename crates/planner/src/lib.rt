@@ -16,6 +16,7 @@ mod pruning;
 mod reading;
 mod sealing;
 mod sets;
+mod starts;
 pub mod state;
 pub mod token;
 mod trimming;

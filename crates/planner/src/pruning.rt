@@ -26,6 +26,7 @@ impl<S: Store> Planner<S> {
             return Err(PlannerRefusal::Hopeless);
         }
         note(&mut self.levels, &cutting.gone);
-        Ok(list_cuts(&cutting.gone, tickets, cuts))
+        list_cuts(&cutting.gone, cuts);
+        Ok(count_starts(&cutting.gone, tickets))
     }
 }
