@@ -1,51 +1,34 @@
 -- A list of cuts, word by word. Assumes nothing.
-use Rattle.std.proofs.Common.{◌≡◌, ℕ, zero, suc, ◌+◌, ◌-◌, ◌*◌, ◌<◌, ◌≤◌, Bool, true, false, ◌≢◌, List, length, get_or, set, sym, refl, ap, ◌∙◌, subst, ⊎_elim, add-one, arith, length-set}
+use Rattle.std.proofs.Common.{◌≡◌, ℕ, zero, suc, ◌+◌, ◌*◌, ◌<◌, ◌≤◌, true, false, ◌≢◌, List, length, get_or, slice_index, set, sym, refl, ap, ◌∙◌, subst, ⊎_elim, add-one, arith, length-set}
 use mathlib.Core.Path.{fun_ext}
 use Rattle.std.proofs.lemmas.List.{get_or-set_other, get_or-set_same}
-use Rattle.std.proofs.lemmas.Bool.{cases_eq, cases_Bool, both_ways}
+use Rattle.std.proofs.lemmas.Bool.{cases_eq, cases_lt, cases_Bool, both_ways}
 use Rattle.std.proofs.lemmas.Bool.Decides.{nat_tests}
-use Rattle.stores.specs.Sets.{Rows, Bounded, Earliest, with, count, size_of}
-use Rattle.stores.proofs.Counts.{count_add, count_none, count_most}
+use Rattle.stores.specs.Sets.{Rows, Bounded, without, with, size_of}
+use Rattle.stores.proofs.Counts.{count_most, count_mono, count_none}
 use Rattle.spreads.specs.Lines.{sum_to}
-use Rattle.spreads.proofs.Sums.{sum_grows}
-use Rattle.planner.specs.Sets.{union, only_row}
-use Rattle.planner.specs.Words.{rows_below, Words}
-use Rattle.planner.proofs.Walks.{upto, upto_more}
-
--- ---- how many starts come before the next
-
-count_gap : (f : ℕ → Bool) (m n : ℕ) → ((k : ℕ) → m ≤ k → k < m + n → f k ≡ false) → count f (m + n) ≡ count f m
-count_gap f m n none = count_add f m n ∙ (let z : count (λ k. f (m + k)) n ≡ 0 = count_none (λ k. f (m + k)) n (λ k l. none (m + k) (omega arith) (omega arith)) in omega arith)
-
-count_held : (f : ℕ → Bool) (v : ℕ) → f v ≡ true → count f (v + 1) ≡ count f v + 1
-unfolding count
-count_held f v on = count_add f v 1 ∙ ap (λ n. count f v + n) (at (f (v + 0)) (ap f (omega arith) ∙ on))
-  where
-    at : (b : Bool) → f (v + 0) ≡ true → count (λ k. f (v + k)) 1 ≡ 1
-    at b e = rw e refl
-
--- one start more, up to the earliest one
-pub count_next : (f : ℕ → Bool) (next v : ℕ) → Earliest f next v → count f (v + 1) ≡ count f next + 1
-count_next f next v e =
-    let le = e.reached in
-    let is : next + (v - next) ≡ v = omega arith in
-    let gap : count f v ≡ count f next = ap (count f) (sym is) ∙ count_gap f next (v - next) (λ k a b. e.gap k a (omega arith)) in
-    count_held f v e.held ∙ (omega arith)
-
--- no more than the row has
-pub count_within : (f : ℕ → Bool) (n : ℕ) → n ≤ 256 → count f n ≤ size_of f
-count_within f n l = let is : n + (256 - n) ≡ 256 = omega arith in let z = count_add f n (256 - n) in omega (arith, ap (count f) is)
-
--- up to the end it is all that the row has
-pub count_end : (f : ℕ → Bool) (next : ℕ) → next ≤ 256 → ((t : ℕ) → next ≤ t → f t ≡ false) → count f next ≡ size_of f
-count_end f next l none =
-    let is : next + (256 - next) ≡ 256 = omega arith in
-    sym (ap (count f) (sym is) ∙ count_gap f next (256 - next) (λ k a _. none k a))
+use Rattle.spreads.proofs.Sums.{sum_le, sum_none}
+use Rattle.runs.specs.Tables.{Setting}
+use Rattle.runs.proofs.Starts.{starts_without}
+use Rattle.planner.specs.Sets.{total}
+use Rattle.planner.specs.Starts.{FirstAt}
+use Rattle.planner.specs.Promise.{ListsCuts}
+use Rattle.planner.proofs.Walking.{before, before_none, before_more}
 
 -- ---- the words
 
-pub words_none : (G : Rows) (xs : List ℕ) → Words (rows_below G 0) 0 xs xs 0
-words_none G xs = record {
+-- the first k words of `new` are the starts of P as 256 * ticket + start, rising and below the bound, and those after are as in `old`
+pub record Words (P : Rows) (bound : ℕ) (old new : List ℕ) (k : ℕ) : Type 0 where
+  pub each : (i t : ℕ) → P i t ≡ true → (j : ℕ) × (j < k) × (slice_index new j ≡ 256 * i + t)
+  pub only : (j : ℕ) → j < k → (i : ℕ) × (t : ℕ) × (P i t ≡ true) × (slice_index new j ≡ 256 * i + t)
+  pub rising : (j l : ℕ) → j < l → l < k → slice_index new j < slice_index new l
+  pub under : (j : ℕ) → j < k → slice_index new j < bound
+  pub rest : (j : ℕ) → k ≤ j → slice_index new j ≡ slice_index old j
+  pub fits : k ≤ length new
+  pub same : length new ≡ length old
+
+words_none : (P : Rows) (xs : List ℕ) → ((i t : ℕ) → P i t ≡ false) → Words P 0 xs xs 0
+words_none P xs none = record {
   each = λ i t on. absurd (both_ways _ (none i t) on);
   only = λ j l. absurd (omega arith);
   rising = λ j l a b. absurd (omega arith);
@@ -54,12 +37,9 @@ words_none G xs = record {
   fits = omega arith;
   same = refl;
 }
-  where
-    none : (i t : ℕ) → rows_below G 0 i t ≡ false
-    none i t = grind (arith, nat_tests)
 
 -- one word more, for a start at or above the bound
-pub words_more :
+words_more :
     (P : Rows) (bound row v : ℕ) (old new : List ℕ) (k : ℕ) → row < 24 → v < 256 → bound ≤ 256 * row + v → k < length new → Words P bound old new k →
     Words (with P row v) (256 * row + (v + 1)) old (set new k (256 * row + v)) (k + 1)
 unfolding with
@@ -101,31 +81,22 @@ words_more P bound row v old new k in_row in_start above l so_far = record {
     other : (j : ℕ) → j < k → get_or (set new k (256 * row + v)) j 0 ≡ get_or new j 0
     other j m = let off : j ≢ k = omega arith in get_or-set_other new k j (256 * row + v) 0 off
 
--- the same words, for the same starts and a higher bound
-pub words_up : (P Q : Rows) (b c : ℕ) (old new : List ℕ) (k : ℕ) → P ≡ Q → b ≤ c → Words P b old new k → Words Q c old new k
-words_up P Q b c old new k e le f =
-    subst (λ (T : Rows). Words T c old new k) e (record {
-      each = f.each;
-      only = f.only;
-      rising = f.rising;
-      under = λ j l. let u = f.under j l in omega arith;
-      rest = f.rest;
-      fits = f.fits;
-      same = f.same;
-    })
+-- words that rise list each start once
+listed : (P : Rows) (b : ℕ) (old new : List ℕ) (k : ℕ) → Words P b old new k → ListsCuts P old new k
+listed P b old new k words = record {
+  room = omega (arith, words.fits, words.same);
+  each = words.each;
+  only = words.only;
+  once = λ j l a b e.
+      ⊎_elim
+      (λ (m : j < l). absurd (omega (arith, words.rising j l m b)))
+      (λ (m : l ≤ j). ⊎_elim (λ (n : l < j). absurd (omega (arith, words.rising l j n a))) (λ (n : j ≤ l). omega arith) (cases_lt l j))
+      (cases_lt j l);
+  rest = words.rest;
+  same = words.same;
+}
 
--- one start more of the row
-pub words_next :
-    (P G : Rows) (row next v : ℕ) (old new : List ℕ) (k : ℕ) → Bounded G → Earliest (G row) next v → k < length new →
-    Words (union P (upto G row next)) (256 * row + next) old new k → Words (union P (upto G row (v + 1))) (256 * row + (v + 1)) old (set new k (256 * row + v)) (k + 1)
-words_next P G row next v old new k b e l so_far =
-    let (in_row, in_start) = b row v e.held in
-    let le = e.reached in
-    words_up (with (union P (upto G row next)) row v) (union P (upto G row (v + 1))) (256 * row + (v + 1)) (256 * row + (v + 1)) old (set new k (256 * row + v)) (k + 1)
-    (upto_more P G (union P (upto G row next)) _ row next v b e refl refl) (omega arith)
-    (words_more (union P (upto G row next)) (256 * row + next) row v old new k in_row in_start (omega arith) l so_far)
-
--- ---- sums over rows
+-- ---- how many starts there are
 
 pub sum_step : (n : ℕ) (f : ℕ → ℕ) → sum_to (n + 1) f ≡ sum_to n f + f n
 sum_step n f = rw add-one refl
@@ -134,12 +105,68 @@ pub sizes_most : (n : ℕ) (R : Rows) → sum_to n (λ i. size_of (R i)) ≤ 256
 sizes_most zero R = omega arith
 sizes_most (suc n) R = omega (arith, sizes_most n R, count_most (R n) 256)
 
-pub sizes_within : (n m : ℕ) (R : Rows) → n < m → sum_to n (λ i. size_of (R i)) + size_of (R n) ≤ sum_to m (λ i. size_of (R i))
-sizes_within n m R l = omega (arith, sum_step n (λ i. size_of (R i)), sum_grows (n + 1) m (λ i. size_of (R i)) (omega arith))
+-- 24 tickets, of which only the number counts
+abbrev rows_24 : Setting
+rows_24 = record { tickets = 24; first = λ _. 0; last = λ _. 0; supports = λ _ _ _ _. ⊥; affords = λ _ _. ⊥ }
 
-pub count_zero : (f : ℕ → Bool) → count f 0 ≡ 0
-unfolding count
-count_zero f = refl
+total_none : (R : Rows) → ((i t : ℕ) → R i t ≡ false) → total R ≡ 0
+unfolding total
+total_none R none = sum_none 24 (λ i. size_of (R i)) (λ i _. count_none (R i) 256 (λ t _. none i t))
 
-pub below_step : (G : Rows) (n : ℕ) → union (rows_below G n) (only_row G n) ≡ rows_below G (n + 1)
-below_step G n = fun_ext (λ i. fun_ext (λ t. grind (arith, nat_tests)))
+total_more : (G : Rows) (from to i t : ℕ) → Bounded G → FirstAt G from to i t → total (before G to) ≡ total (before G from) + 1
+unfolding without with total
+total_more G from to i t b first =
+    let (in_row, in_start) = b i t first.held in
+    let at = first.reached in
+    let passed = first.passed in
+    let on : before G to i t ≡ true = (let held = first.held in grind (arith, nat_tests)) in
+    let out : without (before G to) i t ≡ before G from = fun_ext (λ j. fun_ext (λ u.
+    let is : before G to j u ≡ with (before G from) i t j u = ap (λ (T : Rows). T j u) (before_more G from to i t b first) in
+    ⊎_elim
+    (λ (same : j ≡ i).
+    ⊎_elim
+    (λ (named : u ≡ t). grind (arith, nat_tests))
+    (λ (named : u ≡ t → ⊥). grind (arith, nat_tests))
+    (cases_eq u t))
+    (λ (other : j ≡ i → ⊥). grind (arith, nat_tests))
+    (cases_eq j i))) in
+    starts_without rows_24 (before G to) i t (λ j u held. b j u (grind (arith, nat_tests))) in_row on ∙ ap (λ (T : Rows). total T + 1) out
+
+-- before a start that is still to come there are fewer than in all
+total_room : (G : Rows) (from to i t : ℕ) → Bounded G → FirstAt G from to i t → total (before G from) < total G
+unfolding total
+total_room G from to i t b first =
+    let le : total (before G to) ≤ total G =
+    sum_le 24 (λ j. size_of (before G to j)) (λ j. size_of (G j)) (λ j _. count_mono (before G to j) (G j) 256 (λ u _ on. grind (arith, nat_tests))) in
+    omega (arith, total_more G from to i t b first)
+
+-- ---- the words so far
+
+-- the starts of G before a place are listed in the first k words
+pub record Listed (G : Rows) (place : ℕ) (old new : List ℕ) (k : ℕ) : Type 0 where
+  pub words : Words (before G place) place old new k
+  pub many : k ≡ total (before G place)
+
+pub listed_none : (G : Rows) (xs : List ℕ) → Listed G 0 xs xs 0
+listed_none G xs = record { words = words_none _ xs (before_none G); many = sym (total_none _ (before_none G)) }
+
+pub listed_room :
+    (G : Rows) (from to i t : ℕ) (old new : List ℕ) (k : ℕ) → Bounded G → total G ≤ length old → FirstAt G from to i t → Listed G from old new k → k < length new
+listed_room G from to i t old new k b room first so_far = omega (arith, total_room G from to i t b first, so_far.many, so_far.words.same)
+
+pub listed_more :
+    (G : Rows) (from to i t : ℕ) (old new : List ℕ) (k : ℕ) → Bounded G → k < length new → FirstAt G from to i t → Listed G from old new k →
+    Listed G to old (set new k (256 * i + t)) (k + 1)
+listed_more G from to i t old new k b l first so_far =
+    let (in_row, in_start) = b i t first.held in
+    let step = words_more (before G from) from i t old new k in_row in_start first.reached l so_far.words in
+    record {
+      words = rw (before_more G from to i t b first, first.passed) step;
+      many = omega (arith, so_far.many, total_more G from to i t b first);
+    }
+
+-- no start is left
+pub listed_all : (G : Rows) (place : ℕ) (old new : List ℕ) (k : ℕ) → before G place ≡ G → Listed G place old new k → ListsCuts G old new (total G)
+listed_all G place old new k all so_far =
+    let many : k ≡ total G = so_far.many ∙ ap total all in
+    subst (λ n. ListsCuts G old new n) many (subst (λ (P : Rows). ListsCuts P old new k) all (listed _ place old new k so_far.words))

@@ -1,11 +1,12 @@
 -- What a prune comes to. Assumes nothing.
-use Rattle.std.proofs.Common.{◌≡◌, ℕ, ◌+◌, ◌-◌, ◌<◌, ◌≤◌, true, false, List, length, Result, sym, ap, ◌∙◌, ⊎_elim, arith}
+use Rattle.std.proofs.Common.{◌≡◌, ℕ, ◌+◌, ◌-◌, ◌≤◌, false, List, length, Result, sym, ap, ◌∙◌, subst, arith}
 use mathlib.Core.Path.{fun_ext}
-use Rattle.std.proofs.lemmas.Bool.{cases_lt}
 use Rattle.std.proofs.lemmas.Bool.Decides.{nat_tests}
 use Rattle.tickets.specs.Collections.{posted}
 use Rattle.tickets.specs.declared.planner_refusal.PlannerRefusal.{PlannerRefusal}
 use Rattle.spreads.specs.Lines.{sum_to}
+use Rattle.spreads.proofs.Sums.{sum_longer}
+use Rattle.stores.proofs.Counts.{count_none}
 use Rattle.stores.specs.Sets.{Rows, Bounded, no_starts, size_of}
 use Rattle.runs.specs.Tables.{Setting, Full, starts}
 use Rattle.runs.specs.Planner.{Means}
@@ -13,10 +14,9 @@ use Rattle.runs.specs.declared.call.Call.TheVariants.{Prune}
 use Rattle.runs.proofs.Starts.{starts_split, starts_full}
 use Rattle.runs.proofs.Runs.{every_run}
 use Rattle.planner.specs.declared.state.Planner.{Planner}
-use Rattle.planner.specs.Sets.{union}
+use Rattle.planner.specs.Sets.{union, total}
 use Rattle.planner.specs.States.{setting_of, state_of}
 use Rattle.planner.specs.Trims.{Trim}
-use Rattle.planner.specs.Words.{rows_below, Words}
 use Rattle.planner.specs.Promise.{pruned, cuts_of, ListsCuts, CutList, Pruned}
 use Rattle.planner.proofs.Walks.{out_back, out_gone}
 use Rattle.planner.proofs.Going.{goes_on}
@@ -43,30 +43,19 @@ module _ (w : Setting) (U : ℕ) (S G Q H : Rows) (none : G ≡ no_starts) (trim
   pub cuts_room : (room : ℕ) → Bounded Q → Full w Q → starts w S - w.tickets ≤ room → starts w H ≤ room
   cuts_room room b full enough = omega (arith, cuts_many, starts_full w Q (λ i t on. (b i t on).1) full)
 
-  pub cuts_listed : (bound : ℕ) (old new : List ℕ) (k : ℕ) → Words (rows_below H w.tickets) bound old new k → ListsCuts (cuts_of S Q) old new k
-  cuts_listed bound old new k words = record {
-    room = omega (arith, words.fits, words.same);
-    each = λ i t cut. words.each i t (below i t cut);
-    only = λ j l. let (i, t, on, is) = words.only j l in (i, t, sym (ap (λ (T : Rows). T i t) cuts_are) ∙ held i t on, is);
-    once = λ j l a b e.
-        ⊎_elim
-        (λ (m : j < l). absurd (omega (arith, words.rising j l m b)))
-        (λ (m : l ≤ j). ⊎_elim (λ (n : l < j). absurd (omega (arith, words.rising l j n a))) (λ (n : j ≤ l). omega arith) (cases_lt l j))
-        (cases_lt j l);
-    rest = words.rest;
-    same = words.same;
-  }
-    where
-      held : (i t : ℕ) → rows_below H w.tickets i t ≡ true → H i t ≡ true
-      held i t on = grind (arith, nat_tests)
+  pub cuts_listed : (old new : List ℕ) (k : ℕ) → ListsCuts H old new k → ListsCuts (cuts_of S Q) old new k
+  cuts_listed old new k list = subst (λ (P : Rows). ListsCuts P old new k) cuts_are list
 
-      below : (i t : ℕ) → cuts_of S Q i t ≡ true → rows_below H w.tickets i t ≡ true
-      below i t cut =
+  -- only tickets' rows have cuts
+  pub cuts_total : w.tickets ≤ 24 → total H ≡ starts w H
+  unfolding total
+  cuts_total few = sum_longer w.tickets 24 (λ i. size_of (H i)) (λ i l. count_none (H i) 256 (λ t _. none_past i t l)) few
+    where
+      none_past : (i t : ℕ) → w.tickets ≤ i → H i t ≡ false
+      none_past i t l =
           let is : H i t ≡ cuts_of S Q i t = ap (λ (T : Rows). T i t) cuts_are in
-          ⊎_elim
-          (λ (l : i < w.tickets). grind (arith, nat_tests))
-          (λ (l : w.tickets ≤ i). let kept : Q i t ≡ S i t = trim.past i t l in absurd (grind (arith, nat_tests)))
-          (cases_lt i w.tickets)
+          let kept : Q i t ≡ S i t = trim.past i t l in
+          grind (arith, nat_tests)
 
 module _ {S : Type 0} (rows : S → Rows) where
   -- what a prune means gives the whole promise

@@ -1,75 +1,18 @@
 -- Cutting what releases do not support, start by start, row by row and round by round. Assumes nothing.
-use Rattle.std.proofs.Common.{◌≡◌, ℕ, ◌+◌, ◌<◌, ◌≤◌, Bool, true, false, ◌⊎◌, sym, refl, ap, ◌∙◌, subst, inl, inr, ⊎_elim, arith}
-use Rattle.std.proofs.lemmas.Bool.{cases_Bool, cases_eq, cases_lt, both_ways}
+use Rattle.std.proofs.Common.{◌≡◌, ℕ, ◌+◌, ◌<◌, ◌≤◌, Bool, true, false, ◌||◌, Some, None, Option, sym, refl, ap, ◌∙◌, subst, ⊎_elim, arith}
+use Rattle.std.specs.Option.{is_some}
+use Rattle.std.proofs.Math.Bool.{or-true, or-false}
+use Rattle.std.proofs.lemmas.Bool.{cases_Bool, cases_eq, both_ways}
 use Rattle.stores.specs.Sets.{Rows, Bounded, without, Earliest}
-use Rattle.stores.proofs.Moves.{without_held, without_other, without_named}
+use Rattle.stores.proofs.Moves.{without_other}
 use Rattle.stores.proofs.Firsts.{earliest_least}
 use Rattle.runs.specs.Tables.{Setting, Within, Releases, starts, NoneWithin, Narrowed, Largest}
 use Rattle.runs.proofs.Tables.{Early, Laws, releases_early, within_early}
 use Rattle.runs.proofs.Starts.{starts_within, starts_without}
 use Rattle.runs.proofs.Pruning.{narrowed_none, narrowed_trans, narrowed_less, narrowed_empty, narrowed_largest}
 use Rattle.planner.specs.Sets.{Out}
-use Rattle.planner.specs.Trims.{RowTrim, Trim}
+use Rattle.planner.specs.Trims.{RowTrim, LeastStart, Trim, RoundDone, Settled}
 use Rattle.planner.proofs.Walks.{out_none, out_trans}
-
--- ---- one row
-
-module _ (w : Setting) (U : ℕ) (r : ℕ → ℕ) (row : ℕ) where
-  -- the row of R was walked up to `next`, and Q is left
-  pub record Walked (R Q : Rows) (next : ℕ) : Type 0 where
-    pub less : Within Q R
-    pub others : (i t : ℕ) → (i ≡ row → ⊥) → Q i t ≡ R i t
-    pub kept : (t : ℕ) → t < next → Q row t ≡ true → w.supports r row t U
-    pub cut : (t : ℕ) → R row t ≡ true → Q row t ≡ false → w.supports r row t U → ⊥
-
-  pub walked_none : (R : Rows) → Walked R R 0
-  walked_none R = record { less = λ i t on. on; others = λ i t _. refl; kept = λ t l _. absurd (omega arith); cut = λ t on off _. both_ways (R row t) off on }
-
-  -- a start of the row that comes before v + 1 is v, or comes before `next`
-  earlier : (f : ℕ → Bool) (next v t : ℕ) → Earliest f next v → t < v + 1 → f t ≡ true → (t ≡ v) ⊎ (t < next)
-  earlier f next v t e l on =
-      ⊎_elim (λ (m : t < next). inr m) (λ (m : next ≤ t). inl (let le = earliest_least f next v t e m on in omega arith)) (cases_lt t next)
-
-  pub walked_stay : (R Q : Rows) (next v : ℕ) → Earliest (Q row) next v → w.supports r row v U → Walked R Q next → Walked R Q (v + 1)
-  walked_stay R Q next v e sup so_far = record {
-    less = so_far.less;
-    others = so_far.others;
-    kept = λ t l on.
-        ⊎_elim
-        (λ (at : t ≡ v). subst (λ u. w.supports r row u U) (sym at) sup)
-        (λ (m : t < next). so_far.kept t m on)
-        (earlier (Q row) next v t e l on);
-    cut = so_far.cut;
-  }
-
-  pub walked_cut :
-      (R Q N : Rows) (next v : ℕ) → Earliest (Q row) next v → (w.supports r row v U → ⊥) → N ≡ without Q row v → Walked R Q next →
-      Walked R N (v + 1)
-  walked_cut R Q N next v e dear n so_far = record {
-    less = λ i t on. so_far.less i t (back i t on);
-    others = λ i t other. ap (λ (T : Rows). T i t) n ∙ without_other Q row v i t (λ same _. other same) ∙ so_far.others i t other;
-    kept = λ t l on.
-        ⊎_elim
-        (λ (at : t ≡ v). absurd (both_ways (N row t) (ap (N row) at ∙ ap (λ (T : Rows). T row v) n ∙ without_named Q row v) on))
-        (λ (m : t < next). so_far.kept t m (back row t on))
-        (earlier (Q row) next v t e l (back row t on));
-    cut = λ t on off.
-        ⊎_elim
-        (λ (at : t ≡ v). λ sup. dear (subst (λ u. w.supports r row u U) at sup))
-        (λ (at : t ≡ v → ⊥). so_far.cut t on (sym (without_other Q row v row t (λ _ same. at same)) ∙ ap (λ (T : Rows). T row t) (sym n) ∙ off))
-        (cases_eq t v);
-  }
-    where
-      back : (i t : ℕ) → N i t ≡ true → Q i t ≡ true
-      back i t on = without_held Q row v i t (ap (λ (T : Rows). T i t) (sym n) ∙ on)
-
-  pub walked_done : (R Q : Rows) (next : ℕ) → ((t : ℕ) → next ≤ t → Q row t ≡ false) → Walked R Q next → RowTrim w U r row R Q
-  walked_done R Q next none so_far = record {
-    less = so_far.less;
-    others = so_far.others;
-    kept = λ t on. ⊎_elim (λ (l : t < next). so_far.kept t l on) (λ (l : next ≤ t). absurd (both_ways (Q row t) (none t l) on)) (cases_lt t next);
-    cut = so_far.cut;
-  }
 
 -- ---- a round
 
@@ -141,7 +84,7 @@ module _ (w : Setting) (ok : Laws w) (U : ℕ) where
         (λ (other : i ≡ row → ⊥). so_far.supported i t (omega (arith, other)) (f.less i t on))
         (cases_eq i row)
 
-    pub round_kept : Round r R G Q H row moved → RowTrim w U r row Q N → Out Q H N K → Earliest (N row) 0 (r row) → Round r R G N K (row + 1) moved
+    round_kept : Round r R G Q H row moved → RowTrim w U r row Q N → Out Q H N K → Earliest (N row) 0 (r row) → Round r R G N K (row + 1) moved
     round_kept so_far f out least = record {
       trim = both so_far f out;
       untouched = λ i t m. f.others i t (λ e. omega arith) ∙ so_far.untouched i t (omega arith);
@@ -160,7 +103,7 @@ module _ (w : Setting) (ok : Laws w) (U : ℕ) where
         gone : (i : ℕ) → Q i (r i) ≡ false → N i (r i) ≡ false
         gone i off = ⊎_elim (λ (on : N i (r i) ≡ true). absurd (both_ways _ off (f.less i (r i) on))) (λ (h : N i (r i) ≡ false). h) (cases_Bool (N i (r i)))
 
-    pub round_moved :
+    round_moved :
         Round r R G Q H row moved → RowTrim w U r row Q N → Out Q H N K → (v : ℕ) → Earliest (N row) 0 v → (v ≡ r row → ⊥) →
         Round r R G N K (row + 1) true
     round_moved so_far f out v least other = record {
@@ -182,18 +125,29 @@ module _ (w : Setting) (ok : Laws w) (U : ℕ) where
             (λ (h : N row (r row) ≡ false). h)
             (cases_Bool (N row (r row)))
 
+    pub round_next :
+        Round r R G Q H row moved → RowTrim w U r row Q N → Out Q H N K → (b : Bool) → LeastStart (N row) (r row) (Some b) →
+        Round r R G N K (row + 1) (moved || b)
+    round_next so_far f out false least = rw (or-false moved) (round_kept so_far f out least)
+    round_next so_far f out true (v, least, other) = rw (or-true moved) (round_moved so_far f out v least other)
+
     pub round_emptied : Round r R G Q H row moved → RowTrim w U r row Q N → Out Q H N K → ((t : ℕ) → N row t ≡ false) → Trim w U R G N K × NoneWithin w U R
     round_emptied so_far f out none = (both so_far f out, narrowed_empty w U R N (both so_far f out).narrowed row l none)
 
   -- all rows are trimmed
-  pub round_still : (r : ℕ → ℕ) (R G Q H : Rows) (row : ℕ) → w.tickets ≤ row → Round r R G Q H row false → Largest w U R Q
+  round_still : (r : ℕ → ℕ) (R G Q H : Rows) (row : ℕ) → w.tickets ≤ row → Round r R G Q H row false → Largest w U R Q
   round_still r R G Q H row l so_far =
       narrowed_largest w U R Q so_far.trim.narrowed r (λ i m. so_far.still refl i (omega arith)) (λ i t m on. so_far.supported i t (omega arith) on)
 
-  pub round_shifted : (r : ℕ → ℕ) (R G Q H : Rows) (row : ℕ) → Bounded R → Releases w R r → Round r R G Q H row true → starts w Q < starts w R
+  round_shifted : (r : ℕ → ℕ) (R G Q H : Rows) (row : ℕ) → Bounded R → Releases w R r → Round r R G Q H row true → starts w Q < starts w R
   round_shifted r R G Q H row b rel so_far =
       let (i, m, off) = so_far.shifted refl in
       starts_less R Q i (r i) b m (rel i m).held off so_far.trim.narrowed.within
+
+  pub round_done :
+      (r : ℕ → ℕ) (R G Q H : Rows) (row : ℕ) (b : Bool) → w.tickets ≤ row → Bounded R → Releases w R r → Round r R G Q H row b → RoundDone w U R Q (Some b)
+  round_done r R G Q H row false l bounded rel so_far = round_still r R G Q H row l so_far
+  round_done r R G Q H row true l bounded rel so_far = round_shifted r R G Q H row bounded rel so_far
 
   -- ---- rounds
 
@@ -206,3 +160,12 @@ module _ (w : Setting) (ok : Laws w) (U : ℕ) where
 
   pub settled_none : (S R : Rows) → Narrowed w U S R → NoneWithin w U R → NoneWithin w U S
   settled_none S R f none T self in_s = none T self (f.keeps T self in_s)
+
+  -- the answer's variant tells what was found
+  pub settled_some : (S Q : Rows) (r : Option Unit) → is_some r ≡ true → Settled w U S Q r → Largest w U S Q
+  settled_some S Q (Some _) e best = best
+  settled_some S Q None e none = absurd (both_ways _ refl e)
+
+  pub settled_nothing : (S Q : Rows) (r : Option Unit) → is_some r ≡ false → Settled w U S Q r → NoneWithin w U S
+  settled_nothing S Q (Some _) e best = absurd (both_ways _ e refl)
+  settled_nothing S Q None e none = none

@@ -1,7 +1,9 @@
 pub mod Sets
+pub mod Starts
+pub mod Cuttings
 pub mod Levels
 pub mod States
+pub mod Closing
 pub mod Calls
 pub mod Trims
-pub mod Words
 pub mod Promise

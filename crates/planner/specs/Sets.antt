@@ -1,6 +1,7 @@
 -- Sets of starts, row by row. Assumes nothing.
 use Rattle.std.specs.Prelude.{◌≡◌, ℕ, true, not, ◌&&◌, ◌||◌, ◌==◌, nat_le}
-use Rattle.stores.specs.Sets.{Rows}
+use Rattle.spreads.specs.Lines.{sum_to}
+use Rattle.stores.specs.Sets.{Rows, size_of}
 
 -- what R or G holds
 abbrev pub union : Rows → Rows → Rows
@@ -22,3 +23,7 @@ range_of row first last i t = i == row && (nat_le first t && nat_le t last)
 pub record Out (R G R' G' : Rows) : Type 0 where
   pub less : (i t : ℕ) → R' i t ≡ true → R i t ≡ true
   pub gone : (i t : ℕ) → G' i t ≡ (G i t || (R i t && not (R' i t)))
+
+-- how many starts R has
+unfoldable pub total : Rows → ℕ
+total R = sum_to 24 (λ i. size_of (R i))

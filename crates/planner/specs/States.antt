@@ -1,5 +1,5 @@
 -- A planner's state, as the theory of runs has it, and what its calls answered. Assumes nothing.
-use Rattle.std.specs.Prelude.{◌≡◌, Ok, Err, Result}
+use Rattle.std.specs.Prelude.{◌≡◌, reverse, Ok, Err, Result}
 use Rattle.tickets.specs.Collections.{posted}
 use Rattle.tickets.specs.declared.planner_refusal.PlannerRefusal.{PlannerRefusal}
 use Rattle.stores.specs.Sets.{Rows}
@@ -16,9 +16,9 @@ use Rattle.planner.specs.Levels.{at_marks}
 abbrev pub setting_of : {S : Type 0} → Planner S → Setting
 setting_of p = setting (posted p.collection)
 
--- its state: the standing table is what the store means
+-- its state: the standing table is what the store means; its newest level is the last
 abbrev pub state_of : {S : Type 0} → (S → Rows) → Planner S → State
-state_of rows p = record { standing = rows p.store; ceiling = p.ceiling; levels = at_marks (rows p.store) p.levels p.depth; stamp = p.stamp }
+state_of rows p = record { standing = rows p.store; ceiling = p.ceiling; levels = at_marks (rows p.store) (reverse p.levels.items); stamp = p.stamp }
 
 -- what ban, fix and lower answered
 abbrev pub done : Result Unit PlannerRefusal → Answer

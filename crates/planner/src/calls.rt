@@ -2,16 +2,15 @@
 ghost use Rattle.runs.specs.declared.call.Call.TheVariants.{Ban, Fix, Lower, Mark, Keep, Undo};
 ghost use Rattle.planner.specs.States.{done, opened, closed, HandedBack};
 ghost use Rattle.planner.specs.Calls.{Moved};
+ghost use Rattle.planner.specs.Closing.{Closed};
 
-use crate::levels::{is_newest, join, note};
-use crate::sets::{cut, cut_others, pour};
+use crate::cutting::Cutting;
+use crate::levels::note;
+use crate::sets::pour;
 use crate::state::Planner;
 use crate::token::{Token, TokenRefused};
 use stores::{BitStore, Store};
 use tickets::PlannerRefusal;
-
-/// How many levels can be open.
-const MOST_LEVELS: usize = 32;
 
 impl<S: Store> Planner<S> {
     /// Takes one start out of a ticket's row.
@@ -27,9 +26,9 @@ impl<S: Store> Planner<S> {
         if self.store.size(ticket) <= 1 {
             return Err(PlannerRefusal::OnlyStart);
         }
-        let mut gone = BitStore::empty();
-        cut(&mut self.store, &mut gone, ticket, start);
-        note(&mut self.levels, self.depth, &gone);
+        let mut cutting = Cutting::of(&mut self.store);
+        cutting.cut(ticket, start);
+        note(&mut self.levels, &cutting.gone);
         Ok(())
     }
 
@@ -43,9 +42,9 @@ impl<S: Store> Planner<S> {
         if !self.store.holds(ticket, start) {
             return Err(PlannerRefusal::NoSuchStart);
         }
-        let mut gone = BitStore::empty();
-        cut_others(&mut self.store, &mut gone, ticket, start);
-        note(&mut self.levels, self.depth, &gone);
+        let mut cutting = Cutting::of(&mut self.store);
+        cutting.retain(ticket, |other| other == start);
+        note(&mut self.levels, &cutting.gone);
         Ok(())
     }
 
@@ -64,15 +63,13 @@ impl<S: Store> Planner<S> {
     pub fn mark(&mut self) -> Result<Token, PlannerRefusal>
         ensures { Moved S.rows self.old Mark (opened result) self.new }
     {
-        let depth = self.depth;
-        if depth >= MOST_LEVELS {
+        if self.levels.is_full() {
             return Err(PlannerRefusal::TooManyLevels);
         }
-        self.levels[depth] = BitStore::empty();
-        self.depth = depth + 1;
+        self.levels.push(BitStore::empty());
         Ok(Token {
             stamp: self.stamp,
-            level: depth + 1,
+            level: self.levels.len(),
         })
     }
 
@@ -81,13 +78,8 @@ impl<S: Store> Planner<S> {
         ensures moved { Moved S.rows self.old (Keep token.stamp token.level) (closed result) self.new }
         ensures token { HandedBack token result }
     {
-        if !is_newest(&token, self.stamp, self.depth) {
-            let refusal = PlannerRefusal::StaleToken;
-            return Err(TokenRefused { refusal, token });
-        }
-        let Token { stamp: _, level } = token;
-        join(&mut self.levels, level);
-        self.depth = level - 1;
+        let newest = self.close(token)?;
+        note(&mut self.levels, &newest);
         Ok(())
     }
 
@@ -96,13 +88,25 @@ impl<S: Store> Planner<S> {
         ensures moved { Moved S.rows self.old (Undo token.stamp token.level) (closed result) self.new }
         ensures token { HandedBack token result }
     {
-        if !is_newest(&token, self.stamp, self.depth) {
-            let refusal = PlannerRefusal::StaleToken;
-            return Err(TokenRefused { refusal, token });
-        }
-        let Token { stamp: _, level } = token;
-        pour(&mut self.store, &self.levels[level - 1]);
-        self.depth = level - 1;
+        let newest = self.close(token)?;
+        pour(&mut self.store, &newest);
         Ok(())
+    }
+
+    /// Closes the newest level, spends its token, and answers what was taken out while the level was the newest.
+    fn close(&mut self, token: Token) -> Result<BitStore, TokenRefused>
+        ensures { Closed S.rows self.old token result self.new }
+    {
+        if token.stamp == self.stamp
+            && token.level == self.levels.len()
+            && let Some(newest) = self.levels.pop()
+        {
+            let Token { stamp: _, level: _ } = token;
+            return Ok(newest);
+        }
+        Err(TokenRefused {
+            refusal: PlannerRefusal::StaleToken,
+            token,
+        })
     }
 }

@@ -4,6 +4,7 @@ ghost use Rattle.runs.specs.Tables.{posted};
 ghost use Rattle.runs.specs.Supports.{setting};
 ghost use Rattle.planner.specs.Sets.{union, without_row, range_of};
 
+use crate::cutting::Cutting;
 use stores::{ROWS, Store};
 use tickets::Ticket;
 
@@ -11,11 +12,7 @@ use tickets::Ticket;
 fn empty_row<S: Store>(store: &mut S, row: usize)
     ensures { S.rows store.new ≡ without_row (S.rows store.old) row }
 {
-    let mut next = 0;
-    while let Some(start) = store.after(row, next) {
-        let _ = store.take_out(row, start);
-        next = start + 1;
-    }
+    Cutting::of(store).retain(row, |_| false);
 }
 
 /// Puts the starts from `first` to `last` into a row.

@@ -9,15 +9,16 @@
 
 mod calls;
 mod cuts;
+mod cutting;
 mod filling;
 mod levels;
 mod pruning;
 mod reading;
 mod sealing;
 mod sets;
+mod starts;
 pub mod state;
 pub mod token;
-mod trimmed;
 mod trimming;
 
 pub use state::Planner;

@@ -1,11 +1,10 @@
 ghost use Rattle.planner.specs.Promise.{Pruned};
 
 use crate::cuts::{count_starts, list_cuts};
+use crate::cutting::Cutting;
 use crate::levels::note;
-use crate::sets::pour;
 use crate::state::Planner;
-use crate::trimming::settle;
-use stores::{BitStore, Store};
+use stores::Store;
 use tickets::PlannerRefusal;
 
 impl<S: Store> Planner<S> {
@@ -21,12 +20,13 @@ impl<S: Store> Planner<S> {
         if cuts.len() + tickets < standing {
             return Err(PlannerRefusal::TooShort);
         }
-        let mut gone = BitStore::empty();
-        if !settle(&self.collection, self.ceiling, &mut self.store, &mut gone) {
-            pour(&mut self.store, &gone);
+        let mut cutting = Cutting::of(&mut self.store);
+        if cutting.settle(&self.collection, self.ceiling).is_none() {
+            cutting.put_back();
             return Err(PlannerRefusal::Hopeless);
         }
-        note(&mut self.levels, self.depth, &gone);
-        Ok(list_cuts(&gone, tickets, cuts))
+        note(&mut self.levels, &cutting.gone);
+        list_cuts(&cutting.gone, cuts);
+        Ok(count_starts(&cutting.gone, tickets))
     }
 }

@@ -2,7 +2,8 @@ ghost use Rattle.planner.specs.Calls.{Sealed};
 
 use crate::filling::fill;
 use crate::state::Planner;
-use stores::{BitStore, Store};
+use arrayvec::ArrayVec;
+use stores::Store;
 use tickets::Collection;
 
 impl<S: Store> Planner<S> {
@@ -19,8 +20,7 @@ impl<S: Store> Planner<S> {
             store,
             ceiling,
             stamp,
-            levels: [BitStore::empty(); 32],
-            depth: 0,
+            levels: ArrayVec::new(),
         }
     }
 }

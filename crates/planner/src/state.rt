@@ -1,5 +1,4 @@
-ghost use Rattle.std.specs.Prelude.{◌≤◌};
-
+use arrayvec::ArrayVec;
 use stores::BitStore;
 use tickets::Collection;
 
@@ -10,8 +9,6 @@ pub struct Planner<S> {
     pub(crate) store: S,
     pub(crate) ceiling: u32,
     pub(crate) stamp: u16,
-    /// The starts that were taken out while the level was the newest; the first `depth` levels are open.
-    pub(crate) levels: [BitStore; 32],
-    pub(crate) depth: usize,
-    ghost shallow: { depth ≤ 32 },
+    /// The starts that were taken out while the level was the newest, for each open level, the newest last.
+    pub(crate) levels: ArrayVec<BitStore, 32>,
 }

@@ -1,8 +1,9 @@
-use Rattle.std.proofs.Common.{length, sym, refl, ap, arith}
+use Rattle.std.proofs.Common.{length, sym, refl, ap, ◌∙◌, arith}
 use Rattle.runs.specs.Planner.{bans, takes, refuses}
 use Rattle.runs.proofs.Refusals.{ban_11, ban_12, ban_13, ban_free}
+use Rattle.stores.specs.Sets.{without}
 use Rattle.planner.specs.States.{setting_of, state_of}
-use Rattle.planner.proofs.Marks.{state_same, marks_kept}
+use Rattle.planner.proofs.Marks.{state_same, marks_cut}
 use Rattle.planner.proofs.Going.{goes_on}
 use Rattle.planner.proofs.state.Planner.ban.Goals as goal
 
@@ -29,12 +30,14 @@ returns-then-size-le1 g c =
     refl)
 
 pub cut-requires : goal.cut-requires
-cut-requires g c = sym c.if-not-holds.ensures
+cut-requires g c = ap (λ s. g.S.Store.rows s c.args.ticket c.args.start) c.of-cutting.ensures.store ∙ sym c.if-not-holds.ensures
 
 pub returns : goal.returns
 returns g c =
     let R = g.S.Store.rows in
     let p = c.args.self.now in
+    let same = c.of-cutting.ensures.store in
     goes_on R p _ _ _ refl (takes
     (ban_free (setting_of p) (state_of R p) c.args.ticket c.args.start (omega (arith, ap length c.tickets.ensures)) (sym c.if-not-holds.ensures) (omega (arith, c.size.ensures)))
-    (bans (state_same c.cut.ensures.table refl (marks_kept _ _ _ _ _ _ _ c.empty-gone.ensures c.cut.ensures.out c.note.ensures) refl)))
+    (bans (state_same (c.cut.ensures.table ∙ ap (λ s. without (R s) c.args.ticket c.args.start) same) refl
+    (marks_cut R p.store _ _ _ _ same c.of-cutting.ensures.gone c.cut.ensures.cuts c.note.ensures) refl)))

@@ -1,8 +1,11 @@
-use Rattle.std.proofs.Common.{length, sym, refl, ap, arith}
+use Rattle.std.proofs.Common.{◌≡◌, eqb, length, sym, refl, ap, ◌∙◌, arith, rules}
 use Rattle.runs.specs.Planner.{fixes, takes, refuses}
 use Rattle.runs.proofs.Refusals.{fix_11, fix_12, fix_free}
+use Rattle.runs.specs.Orders.{fixed}
+use Rattle.planner.specs.Cuttings.{Retained}
+use Rattle.planner.proofs.Retaining.{retained_as, retained_fixed}
 use Rattle.planner.specs.States.{setting_of, state_of}
-use Rattle.planner.proofs.Marks.{state_same, marks_kept}
+use Rattle.planner.proofs.Marks.{state_same, marks_cut}
 use Rattle.planner.proofs.Going.{goes_on}
 use Rattle.planner.proofs.state.Planner.fix.Goals as goal
 
@@ -24,6 +27,10 @@ pub returns : goal.returns
 returns g c =
     let R = g.S.Store.rows in
     let p = c.args.self.now in
+    let same = c.of-cutting.ensures.store in
+    let kept : Retained (λ t b. b ≡ eqb t c.args.start) c.args.ticket (R c.of-cutting.result.store.now) (R c.retain.new.self.store.now) =
+    retained_as _ _ c.args.ticket _ _ (g.met.S.Store.bounded c.of-cutting.result.store.now) (λ t b l k. search rules) c.retain.ensures.table in
     goes_on R p _ _ _ refl (takes
     (fix_free (setting_of p) (state_of R p) c.args.ticket c.args.start (omega (arith, ap length c.tickets.ensures)) (sym c.if-not-holds.ensures))
-    (fixes (state_same c.cut_others.ensures.table refl (marks_kept _ _ _ _ _ _ _ c.empty-gone.ensures c.cut_others.ensures.out c.note.ensures) refl)))
+    (fixes (state_same (retained_fixed _ _ c.args.ticket c.args.start kept ∙ ap (λ s. fixed (R s) c.args.ticket c.args.start) same) refl
+    (marks_cut R p.store _ _ _ _ same c.of-cutting.ensures.gone c.retain.ensures.cuts c.note.ensures) refl)))

@@ -1,13 +1,17 @@
-use Rattle.std.proofs.Common.{◌≡◌, ◌*◌, length, refl, ap, ◌∙◌, subst, arith, rules}
+use Rattle.std.proofs.Common.{◌≡◌, length, reverse, refl, ap, sym, ◌∙◌, subst, arith, rules}
 use Rattle.stores.specs.Sets.{Rows}
 use Rattle.stores.specs.BitRows.{bit_rows}
 use Rattle.runs.specs.Planner.{prunes, takes, refuses}
 use Rattle.runs.proofs.Refusals.{prune_17, prune_21, prune_free}
 use Rattle.planner.specs.Levels.{at_marks}
-use Rattle.planner.specs.Words.{rows_below, Words}
+use Rattle.runs.specs.Tables.{starts}
+use Rattle.planner.specs.Sets.{total}
+use Rattle.planner.specs.Promise.{ListsCuts}
 use Rattle.planner.specs.States.{setting_of, state_of}
 use Rattle.planner.proofs.Marks.{state_same, marks_kept}
-use Rattle.planner.proofs.Prunes.{counted, cuts_back, cuts_many, cuts_room, cuts_listed, promised}
+use Rattle.planner.proofs.Rounds.{settled_some, settled_nothing}
+use Rattle.runs.proofs.Supports.{laws}
+use Rattle.planner.proofs.Prunes.{counted, cuts_back, cuts_many, cuts_room, cuts_listed, cuts_total, promised}
 use Rattle.planner.proofs.state.Planner.prune.Goals as goal
 
 pub returns-then-cuts-tickets : goal.returns-then-cuts-tickets
@@ -20,21 +24,21 @@ returns-then-cuts-tickets g c =
     (refuses (prune_17 (setting_of p) (state_of R p) (length cuts) (omega (arith, all, ap length c.tickets-tickets.ensures))) refl)
     refl
 
-pub returns-then-not-settle : goal.returns-then-not-settle
-returns-then-not-settle g c =
+pub returns-then-is_none : goal.returns-then-is_none
+returns-then-is_none g c =
     let R = g.S.Store.rows in
     let p = c.args.self.now in
     let cuts = c.args.cuts.now in
     let w = setting_of p in
     let all = counted w (R p.store) _ _ (ap length c.tickets-tickets.ensures) c.count_starts-standing.ensures in
-    let G = bit_rows c.empty-gone.result in
-    let Q = R c.settle.new.store in
-    let H = bit_rows c.settle.new.gone in
-    let back : R c.pour.new.into ≡ R p.store = c.pour.ensures ∙ cuts_back w p.ceiling (R p.store) G Q H c.empty-gone.ensures c.settle.ensures.trim in
+    let same = c.of-cutting.ensures.store in
+    let trim = rw same at c.settle.ensures.trim in
+    let done = rw same at c.settle.ensures.done in
+    let back : R c.put_back.new.self.store.now ≡ R p.store = c.put_back.ensures.table ∙ cuts_back w p.ceiling (R p.store) _ _ _ c.of-cutting.ensures.gone trim in
     promised R p _ cuts _ cuts refl
     (refuses
-    (prune_21 w (state_of R p) (length cuts) (omega (arith, all, ap length c.tickets-tickets.ensures)) c.if-not-settle.ensures.done)
-    (state_same back refl (ap (λ (T : Rows). at_marks T p.levels p.depth) back) refl))
+    (prune_21 w (state_of R p) (length cuts) (omega (arith, all, ap length c.tickets-tickets.ensures)) (settled_nothing w (laws _) p.ceiling _ _ _ c.if-is_none.ensures done))
+    (state_same back refl (ap (λ (T : Rows). at_marks T (reverse p.levels.items)) back) refl))
     refl
 
 pub list_cuts-requires : goal.list_cuts-requires
@@ -43,14 +47,14 @@ list_cuts-requires g c =
     let p = c.args.self.now in
     let w = setting_of p in
     let all = counted w (R p.store) _ _ (ap length c.tickets-tickets.ensures) c.count_starts-standing.ensures in
-    let G = bit_rows c.empty-gone.result in
-    let Q = R c.settle.new.store in
-    let H = bit_rows c.settle.new.gone in
-    let best = c.if-not-settle.ensures.done in
+    let same = c.of-cutting.ensures.store in
+    let trim = rw same at c.settle.ensures.trim in
+    let done = rw same at c.settle.ensures.done in
+    let best = settled_some w (laws _) p.ceiling _ _ _ c.if-is_none.ensures done in
     let room =
-    cuts_room w p.ceiling (R p.store) G Q H c.empty-gone.ensures c.settle.ensures.trim (length c.args.cuts.now)
-    (g.met.S.Store.bounded c.settle.new.store) best.itself.full (omega (arith, all, ap length c.tickets-tickets.ensures)) in
-    (search rules, omega (arith, room, counted w H _ _ (ap length c.tickets-tickets.ensures) refl))
+    cuts_room w p.ceiling (R p.store) _ _ _ c.of-cutting.ensures.gone trim (length c.args.cuts.now)
+    (g.met.S.Store.bounded c.settle.new.self.store.now) best.itself.full (omega (arith, all, ap length c.tickets-tickets.ensures)) in
+    omega (arith, room, cuts_total w p.ceiling (R p.store) _ _ _ c.of-cutting.ensures.gone trim (search rules))
 
 pub returns : goal.returns
 returns g c =
@@ -59,16 +63,18 @@ returns g c =
     let cuts = c.args.cuts.now in
     let w = setting_of p in
     let all = counted w (R p.store) _ _ (ap length c.tickets-tickets.ensures) c.count_starts-standing.ensures in
-    let G = bit_rows c.empty-gone.result in
-    let Q = R c.settle.new.store in
-    let H = bit_rows c.settle.new.gone in
-    let trim = c.settle.ensures.trim in
-    let best = c.if-not-settle.ensures.done in
-    let many = counted w H _ _ (ap length c.tickets-tickets.ensures) c.list_cuts.ensures.many in
-    let words = subst (λ n. Words (rows_below H n) (256 * n) cuts c.list_cuts.new.cuts c.list_cuts.result) (ap length c.tickets-tickets.ensures) c.list_cuts.ensures.words in
+    let same = c.of-cutting.ensures.store in
+    let none = c.of-cutting.ensures.gone in
+    let trim = rw same at c.settle.ensures.trim in
+    let done = rw same at c.settle.ensures.done in
+    let best = settled_some w (laws _) p.ceiling _ _ _ c.if-is_none.ensures done in
+    let Q = R c.settle.new.self.store.now in
+    let H = bit_rows c.settle.new.self.gone in
+    let many : c.count_starts.result ≡ starts w H = counted w H _ _ (ap length c.tickets-tickets.ensures) c.count_starts.ensures in
+    let all_cuts : total H ≡ starts w H = cuts_total w p.ceiling (R p.store) _ Q H none trim (search rules) in
     promised R p _ cuts _ _ refl
     (takes
-    (prune_free w (state_of R p) (length cuts) (omega (arith, all, ap length c.tickets-tickets.ensures)) (λ none. none Q best.itself best.within))
-    (prunes Q best (omega (arith, many, cuts_many w p.ceiling (R p.store) G Q H c.empty-gone.ensures trim))
-    (state_same refl refl (marks_kept _ _ _ _ _ _ _ c.empty-gone.ensures trim.out c.note.ensures) refl)))
-    (cuts_listed w p.ceiling (R p.store) G Q H c.empty-gone.ensures trim _ cuts c.list_cuts.new.cuts c.list_cuts.result words)
+    (prune_free w (state_of R p) (length cuts) (omega (arith, all, ap length c.tickets-tickets.ensures)) (λ no. no Q best.itself best.within))
+    (prunes Q best (omega (arith, many, cuts_many w p.ceiling (R p.store) _ Q H none trim))
+    (state_same refl refl (marks_kept _ _ _ _ _ _ none trim.out c.note.ensures) refl)))
+    (cuts_listed w p.ceiling (R p.store) _ Q H none trim cuts c.list_cuts.new.cuts c.count_starts.result (subst (λ n. ListsCuts H cuts c.list_cuts.new.cuts n) (all_cuts ∙ sym many) c.list_cuts.ensures))
