@@ -1,12 +1,14 @@
-ghost use Rattle.std.specs.Prelude.{◌≡◌};
+ghost use Rattle.std.specs.Prelude.{◌≡◌, Some};
 ghost use Rattle.ticket_file.specs.Readings.{plain};
 ghost use Rattle.day.specs.declared.contents.GatherError.TheVariants.{Refused, OutOfMemory};
 ghost use Rattle.day.specs.Judging.{nothing};
-ghost use Rattle.day.specs.Contents.{gathered, Took};
+ghost use Rattle.day.specs.Contents.{banned, gathered, Took};
 ghost use Rattle.day.specs.Reports.{Outcome};
+ghost use Rattle.day.specs.Texts.{ban_text};
 
-use crate::fault::{Fault, Refusal};
+use crate::fault::Fault;
 use std::alloc::{AllocError, AllocFailed, Global};
+use std::fmt;
 use ticket_file::{Placed, Record};
 use tickets::{Collection, TicketRefusal};
 
@@ -49,6 +51,14 @@ pub(crate) struct Ban {
     pub(crate) start: u8,
 }
 
+impl fmt::Display for Ban {
+    ghost output = { λ b. Some (ban_text (banned b)) };
+
+    fn fmt<W: fmt::Write>(&self, f: &mut fmt::Formatter<W>) -> fmt::Result {
+        write!(f, "ban {} {}", self.ticket, self.start)
+    }
+}
+
 /// What the records of a file came to.
 #[derive(Drop)]
 pub(crate) struct Contents {
@@ -72,7 +82,7 @@ impl Contents {
         ensures { Took (gathered self.old) (plain placed.now.record) placed.now.place result (gathered self.new) }
     {
         let refused = |refusal: TicketRefusal| Fault {
-            refusal: Refusal::Ticket(refusal),
+            refusal: refusal.into(),
             place: placed.place,
         };
         match placed.record {
@@ -96,10 +106,7 @@ pub(crate) fn gather(heap: Global, file: &[u8]) -> Result<Contents, GatherError>
         contents.take(placed)?;
     }
     match reading.fault {
-        Some(fault) => Err(GatherError::Refused(Fault {
-            refusal: Refusal::File(fault.refusal),
-            place: fault.place,
-        })),
+        Some(fault) => Err(Fault::from(fault).into()),
         None => Ok(contents),
     }
 }

@@ -3,7 +3,7 @@ ghost use Rattle.day.specs.Reports.{Reported};
 
 use crate::contents::{GatherError, gather};
 use crate::fault::Fault;
-use crate::text::{fault_line, listing};
+use crate::text::listing;
 use std::alloc::{AllocError, Global};
 
 /// What a file comes to: the text to print, which is the listing or the line of the fault.
@@ -23,7 +23,7 @@ pub fn report_on(heap: Global, file: &[u8]) -> Result<Report, AllocError>
             fault: None,
         }),
         Err(GatherError::Refused(fault)) => Ok(Report {
-            text: fault_line(heap, fault)?,
+            text: format!(in heap; "{fault}\n")?,
             fault: Some(fault),
         }),
         Err(GatherError::OutOfMemory) => Err(AllocError),

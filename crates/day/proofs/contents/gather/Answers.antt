@@ -17,7 +17,7 @@ loop-placed-preserved c =
 
 pub returns-in-Some : goal.returns-in-Some
 returns-in-Some c =
-    form_found _ _ c.in_ok-reading.ensures.read _ c.deref-placed-items.ensures.value _ (gathered c.loop-placed.contents) _ c.loop-placed-test.false c.loop-placed.invariant c.in-Some.is
+    rw (c.into.ensures, c.from.ensures) (form_found _ _ c.in_ok-reading.ensures.read _ c.deref-placed-items.ensures.value _ (gathered c.loop-placed.contents) _ c.loop-placed-test.false c.loop-placed.invariant c.in-Some.is)
 
 pub returns : goal.returns
 returns c = all_found _ _ c.in_ok-reading.ensures.read _ c.deref-placed-items.ensures.value _ (gathered c.loop-placed.contents) c.loop-placed-test.false c.loop-placed.invariant c.in-None.is
