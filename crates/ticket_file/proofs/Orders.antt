@@ -12,24 +12,15 @@ follows_begin Tickets ks (m, e) = (67 ∷ [], (m, 0, ap (λ l. l ++ 67 ∷ []) e
 follows_begin Bans ks (m, n, e) = ([], (m, n, append-nil ks ∙ e))
 
 -- what may come next
-pub one_ticket : (s : Stage) (k : ℕ) → s ≡ Tickets → k ≡ 84 → (ks : List ℕ) → Follows s ks → Follows Tickets (ks ++ k ∷ [])
-one_ticket s k e f ks h = rw f (after ks (rw e at h))
-  where
-    after : (ks : List ℕ) → Follows Tickets ks → Follows Tickets (ks ++ 84 ∷ [])
-    after ks (m, is) = (m + 1, ap (λ l. l ++ 84 ∷ []) is ∙ replicate_more m 84)
+pub one_ticket : (ks : List ℕ) → Follows Tickets ks → Follows Tickets (ks ++ 84 ∷ [])
+one_ticket ks (m, is) = (m + 1, ap (λ l. l ++ 84 ∷ []) is ∙ replicate_more m 84)
 
-pub one_ceiling : (s : Stage) (k : ℕ) → s ≡ Tickets → k ≡ 67 → (ks : List ℕ) → Follows s ks → Follows Bans (ks ++ k ∷ [])
-one_ceiling s k e f ks h = rw f (after ks (rw e at h))
-  where
-    after : (ks : List ℕ) → Follows Tickets ks → Follows Bans (ks ++ 67 ∷ [])
-    after ks (m, is) = (m, 0, ap (λ l. l ++ 67 ∷ []) is)
+pub one_ceiling : (ks : List ℕ) → Follows Tickets ks → Follows Bans (ks ++ 67 ∷ [])
+one_ceiling ks (m, is) = (m, 0, ap (λ l. l ++ 67 ∷ []) is)
 
-pub one_ban : (s : Stage) (k : ℕ) → s ≡ Bans → k ≡ 66 → (ks : List ℕ) → Follows s ks → Follows Bans (ks ++ k ∷ [])
-one_ban s k e f ks h = rw f (after ks (rw e at h))
-  where
-    after : (ks : List ℕ) → Follows Bans ks → Follows Bans (ks ++ 66 ∷ [])
-    after ks (m, n, is) =
-        (m, n + 1, ap (λ l. l ++ 66 ∷ []) is ∙ append_assoc (replicate m 84) (67 ∷ replicate n 66) (66 ∷ []) ∙ ap (λ l. replicate m 84 ++ 67 ∷ l) (replicate_more n 66))
+pub one_ban : (ks : List ℕ) → Follows Bans ks → Follows Bans (ks ++ 66 ∷ [])
+one_ban ks (m, n, is) =
+    (m, n + 1, ap (λ l. l ++ 66 ∷ []) is ∙ append_assoc (replicate m 84) (67 ∷ replicate n 66) (66 ∷ []) ∙ ap (λ l. replicate m 84 ++ 67 ∷ l) (replicate_more n 66))
 
 -- after tickets come a ticket or the ceiling
 tickets_then : (a m n k : ℕ) (more : List ℕ) → (replicate a 84 ++ k ∷ []) ++ more ≡ order m n → (k ≡ 84) ⊎ (k ≡ 67)
@@ -52,19 +43,13 @@ bans_then (suc a) b zero n k more e = let z : ◌≡◌ {A = ℕ} 84 67 = cc in 
 bans_then (suc a) b (suc m) n k more e = bans_then a b m n k more (cc)
 
 -- a ban before the ceiling
-pub early : (s : Stage) (k : ℕ) → s ≡ Tickets → k ≡ 66 → (ks : List ℕ) → Follows s ks → Begins (ks ++ k ∷ []) → ⊥
-early s k e f ks h = refused (rw e at h)
-  where
-    refused : Follows Tickets ks → Begins (ks ++ k ∷ []) → ⊥
-    refused (a, is) (more, (m, n, same)) =
-        ⊎_elim (λ x. omega arith) (λ x. omega arith) (tickets_then a m n k more (ap (λ l. (l ++ k ∷ []) ++ more) (sym is) ∙ same))
+pub early : (ks : List ℕ) → Follows Tickets ks → Begins (ks ++ 66 ∷ []) → ⊥
+early ks (a, is) (more, (m, n, same)) =
+    ⊎_elim (λ x. omega arith) (λ x. omega arith) (tickets_then a m n 66 more (ap (λ l. (l ++ 66 ∷ []) ++ more) (sym is) ∙ same))
 
 -- a ticket or a second ceiling after the ceiling
-pub late : (s : Stage) (k : ℕ) → s ≡ Bans → (k ≡ 66 → ⊥) → (ks : List ℕ) → Follows s ks → Begins (ks ++ k ∷ []) → ⊥
-late s k e f ks h = refused (rw e at h)
-  where
-    refused : Follows Bans ks → Begins (ks ++ k ∷ []) → ⊥
-    refused (a, b, is) (more, (m, n, same)) = f (bans_then a b m n k more (ap (λ l. (l ++ k ∷ []) ++ more) (sym is) ∙ same))
+pub late : (k : ℕ) → (k ≡ 66 → ⊥) → (ks : List ℕ) → Follows Bans ks → Begins (ks ++ k ∷ []) → ⊥
+late k f ks (a, b, is) (more, (m, n, same)) = f (bans_then a b m n k more (ap (λ l. (l ++ k ∷ []) ++ more) (sym is) ∙ same))
 
 -- tickets alone are no whole file
 pub unended : (ks : List ℕ) → Follows Tickets ks → Whole ks → ⊥
