@@ -7,7 +7,7 @@ use Rattle.tickets.specs.Refusals.{Answers, Clear}
 use Rattle.ticket_file.specs.declared.refusal.FileFault.{FileFault}
 use Rattle.ticket_file.specs.declared.record.Placed.{Placed}
 use Rattle.ticket_file.specs.declared.record.Record.TheVariants.{Ticket as TicketRecord}
-use Rattle.ticket_file.specs.declared.stage.Reading.{Reading}
+use Rattle.ticket_file.specs.declared.reading.Reading.{Reading}
 use Rattle.ticket_file.specs.Format.{Rec, bytes, file_of}
 use Rattle.ticket_file.specs.Faults.{no_judge, Taken, Upto, form, contents, Faulty}
 use Rattle.ticket_file.specs.Readings.{plain, seen, Ends, Read}

@@ -13,7 +13,7 @@ use ticket_file::{Placed, Record};
 use tickets::{Collection, TicketRefusal};
 
 /// Why the records of a file are not all gathered.
-#[derive(Clone, Copy, Debug, PartialEq)]
+#[derive(Clone, Copy)]
 pub(crate) enum GatherError {
     /// The file has a fault.
     Refused(Fault),
