@@ -105,10 +105,10 @@ module _ (file : List ℕ) (x : Reading) (read : Read file x) (xs : List Placed)
 
 -- a refusal is told by its reason
 same_refusal : (v w : Refusal) → reason v ≡ reason w → v ≡ w
-same_refusal (File f) (File g) e = let same : f ≡ g = cc in ap File same
-same_refusal (File f) (Ticket d) e = let z : ◌≡◌ {A = ℕ} 0 1 = cc in absurd (omega arith)
-same_refusal (Ticket d) (File g) e = let z : ◌≡◌ {A = ℕ} 0 1 = cc in absurd (omega arith)
-same_refusal (Ticket d) (Ticket c) e = let same : d ≡ c = cc in ap Ticket same
+same_refusal (File f) (File g) e = cc
+same_refusal (File f) (Ticket d) e = cc
+same_refusal (Ticket d) (File g) e = cc
+same_refusal (Ticket d) (Ticket c) e = cc
 
 -- the report on a file that is accepted
 pub reports_listing : (file : List ℕ) (x : Report) (g : Gathered) (rs : List Rec) → Accepted file rs → g ≡ gather nothing rs → x.fault ≡ None → Lists g (string_bytes x.text) → Reported file x

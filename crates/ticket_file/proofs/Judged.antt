@@ -2,6 +2,7 @@
 use Rattle.std.proofs.Common.{◌≡◌, ℕ, zero, suc, ◌+◌, ◌<◌, ◌⊎◌, List, [], ◌∷◌, ◌++◌, map, length, get_or, take, drop, sym, refl, ap, ◌∙◌, subst, inl, inr, ⊎_elim, append_assoc, arith, length-append}
 use Rattle.std.specs.List.{flat_map}
 use Rattle.std.proofs.lemmas.List.{take_at, drop_at, length-take-le}
+use Rattle.std.proofs.lemmas.Grind.{flat_map-append}
 use Rattle.tickets.specs.Refusals.{Clear}
 use Rattle.ticket_file.specs.declared.refusal.FileRefusal.{FileRefusal}
 use Rattle.ticket_file.specs.declared.refusal.FileRefusal.TheVariants.{TooLong, NotATicketFile, OtherVersion, PastEnd, UnknownKind, BodyLength, OutOfOrder}
@@ -26,10 +27,6 @@ pub takes_more : {E : Type 0} (j : Judge E) (rs : List Rec) (r : Rec) → Taken 
 takes_more j rs r t clear before after q same e m =
     ⊎_elim (λ h. t before h.0 q h.1 e m) (λ h. clear e (subst (λ x. (j e).meets x) (λ i. (h.0 i, h.1 i)) m)) (split_last rs before after r q same)
 
-joined_mid : (before after : List Rec) (r : Rec) → flat_map bytes (before ++ r ∷ after) ≡ flat_map bytes before ++ (bytes r ++ flat_map bytes after)
-joined_mid [] after r = refl
-joined_mid (b ∷ before) after r = ap (λ l. bytes b ++ l) (joined_mid before after r) ∙ sym (append_assoc (bytes b) (flat_map bytes before) (bytes r ++ flat_map bytes after))
-
 -- a record among those that were read: those before it lead up to it, and it comes in order
 module _ (file : List ℕ) (q : ℕ) (before after : List Rec) (r : Rec) (u : Upto no_judge file q (before ++ r ∷ after)) where
   rest : List ℕ
@@ -38,7 +35,7 @@ module _ (file : List ℕ) (q : ℕ) (before after : List Rec) (r : Rec) (u : Up
   whole : file ≡ file_of before ++ (bytes r ++ rest)
   unfolding file_of rest
   whole =
-      parts file q (before ++ r ∷ after) u.is ∙ ap (λ l. header ++ (l ++ drop q file)) (joined_mid before after r) ∙ ap (λ l. header ++ l) (append_assoc (flat_map bytes before) (bytes r ++ flat_map bytes after) (drop q file)) ∙ ap (λ l. header ++ (flat_map bytes before ++ l)) (append_assoc (bytes r) (flat_map bytes after) (drop q file))
+      parts file q (before ++ r ∷ after) u.is ∙ ap (λ l. header ++ (l ++ drop q file)) (flat_map-append bytes before (r ∷ after)) ∙ ap (λ l. header ++ l) (append_assoc (flat_map bytes before) (bytes r ++ flat_map bytes after) (drop q file)) ∙ ap (λ l. header ++ (flat_map bytes before ++ l)) (append_assoc (bytes r) (flat_map bytes after) (drop q file))
 
   pub leads_up : Upto no_judge file (length (file_of before)) before
   leads_up = record {

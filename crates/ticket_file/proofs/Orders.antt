@@ -1,5 +1,5 @@
 -- The order of the kinds. Assumes nothing.
-use Rattle.std.proofs.Common.{◌≡◌, ℕ, zero, suc, ◌+◌, ◌⊎◌, List, [], ◌∷◌, ◌++◌, length, replicate, sym, ap, ◌∙◌, inl, inr, ⊎_elim, append_assoc, append-nil, arith}
+use Rattle.std.proofs.Common.{◌≡◌, ℕ, zero, suc, ◌+◌, ◌⊎◌, List, [], ◌∷◌, ◌++◌, length, get_or, replicate, sym, ap, ◌∙◌, inl, inr, ⊎_elim, append_assoc, append-nil, arith}
 use Rattle.std.proofs.lemmas.List.{replicate_more}
 use Rattle.ticket_file.specs.declared.stage.Stage.{Stage}
 use Rattle.ticket_file.specs.declared.stage.Stage.TheVariants.{Tickets, Bans}
@@ -26,7 +26,7 @@ one_ban ks (m, n, is) =
 tickets_then : (a m n k : ℕ) (more : List ℕ) → (replicate a 84 ++ k ∷ []) ++ more ≡ order m n → (k ≡ 84) ⊎ (k ≡ 67)
 tickets_then zero zero n k more e = inr (cc)
 tickets_then zero (suc m) n k more e = inl (cc)
-tickets_then (suc a) zero n k more e = let z : ◌≡◌ {A = ℕ} 84 67 = cc in absurd (omega arith)
+tickets_then (suc a) zero n k more e = absurd (omega (arith, ap (λ l. get_or l 0 0) e))
 tickets_then (suc a) (suc m) n k more e = tickets_then a m n k more (cc)
 
 -- after the ceiling come bans
@@ -38,8 +38,8 @@ all_bans (suc b) (suc n) k more e = all_bans b n k more (cc)
 
 bans_then : (a b m n k : ℕ) (more : List ℕ) → (order a b ++ k ∷ []) ++ more ≡ order m n → k ≡ 66
 bans_then zero b zero n k more e = all_bans b n k more (cc)
-bans_then zero b (suc m) n k more e = let z : ◌≡◌ {A = ℕ} 67 84 = cc in absurd (omega arith)
-bans_then (suc a) b zero n k more e = let z : ◌≡◌ {A = ℕ} 84 67 = cc in absurd (omega arith)
+bans_then zero b (suc m) n k more e = absurd (omega (arith, ap (λ l. get_or l 0 0) e))
+bans_then (suc a) b zero n k more e = absurd (omega (arith, ap (λ l. get_or l 0 0) e))
 bans_then (suc a) b (suc m) n k more e = bans_then a b m n k more (cc)
 
 -- a ban before the ceiling
@@ -58,5 +58,5 @@ unended ks (a, is) (m, n, e) = not_yet a m n (sym is ∙ e)
     not_yet : (a m n : ℕ) → replicate a 84 ≡ order m n → ⊥
     not_yet zero zero n e = omega (arith, ap length e)
     not_yet zero (suc m) n e = omega (arith, ap length e)
-    not_yet (suc a) zero n e = let z : ◌≡◌ {A = ℕ} 84 67 = cc in omega arith
+    not_yet (suc a) zero n e = omega (arith, ap (λ l. get_or l 0 0) e)
     not_yet (suc a) (suc m) n e = not_yet a m n (cc)

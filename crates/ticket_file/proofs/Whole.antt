@@ -66,10 +66,6 @@ faulted file x rs f are some b front = record {
     same : (e : FileRefusal) (p : ℕ) → (◌≡◌ {A = Reason ⊥} (form f.refusal) (form e)) × (f.place ≡ p) → f ≡ record { refusal = e; place = p }
     same e p (w, at) = let r : f.refusal ≡ e = cc in λ i. record { refusal = r i; place = at i }
 
--- no record is read yet
-pub started : (file : List ℕ) (c : Cursor) (xs : List Placed) → (c.file.now ≡ file) × At c [] → xs ≡ [] → Handed file c xs
-started file c xs (of, sofar) none = record { rs = []; of = of; sofar = sofar; are = ap (map seen) none }
-
 -- nothing is left to read
 pub ended : (file : List ℕ) (c : Cursor) (x : Reading) (h : Handed file c (vec_items x.records)) → x.fault ≡ None → Holds c.file.now h.rs → Read file x
 ended file c x h none holds = subst (λ l. Read l x) h.of (complete c.file.now x h.rs h.are none holds)

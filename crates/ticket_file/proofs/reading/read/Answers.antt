@@ -2,7 +2,7 @@ use Rattle.std.proofs.Common.{[], ◌∷◌, map, refl, ap, inl}
 use Rattle.std.proofs.lemmas.Slice.{pushed}
 use Rattle.ticket_file.specs.Readings.{seen}
 use Rattle.ticket_file.proofs.Unique.{injective}
-use Rattle.ticket_file.proofs.Whole.{more, faulted, started, ended, stopped}
+use Rattle.ticket_file.proofs.Whole.{more, faulted, ended, stopped}
 use Rattle.ticket_file.proofs.reading.read.Goals as goal
 use Rattle.ticket_file.proofs.reading.read.Goals.{in-Ok-None, in-Err-next}
 
@@ -10,9 +10,6 @@ pub returns-in-Err : goal.returns-in-Err
 returns-in-Err c =
     let told = c.in-Err.ensures in
     record { read = faulted _ _ [] _ (ap (map seen) c.new-records.ensures.items) refl told.1 (inl (told.0, refl)); injective = injective }
-
-pub loop-placed-init : goal.loop-placed-init
-loop-placed-init c = started _ _ _ c.in-Ok.ensures c.new-records.ensures.items
 
 pub loop-placed-preserved : goal.loop-placed-preserved
 loop-placed-preserved c =
