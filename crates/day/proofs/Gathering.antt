@@ -18,11 +18,11 @@ later CeilingTooHigh = omega arith
 
 pub apart : (d e : TicketRefusal) → (posting d).number ≡ (posting e).number → d ≡ e
 apart OutsideLimits OutsideLimits h = refl
-apart OutsideLimits TooManyTickets h = absurd (omega arith)
-apart OutsideLimits CeilingTooHigh h = absurd (omega arith)
-apart TooManyTickets OutsideLimits h = absurd (omega arith)
+apart OutsideLimits TooManyTickets h = cc
+apart OutsideLimits CeilingTooHigh h = cc
+apart TooManyTickets OutsideLimits h = cc
 apart TooManyTickets TooManyTickets h = refl
-apart TooManyTickets CeilingTooHigh h = absurd (omega arith)
-apart CeilingTooHigh OutsideLimits h = absurd (omega arith)
-apart CeilingTooHigh TooManyTickets h = absurd (omega arith)
+apart TooManyTickets CeilingTooHigh h = cc
+apart CeilingTooHigh OutsideLimits h = cc
+apart CeilingTooHigh TooManyTickets h = cc
 apart CeilingTooHigh CeilingTooHigh h = refl

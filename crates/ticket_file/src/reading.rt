@@ -127,6 +127,7 @@ impl<'a> Cursor<'a> {
 }
 
 /// Reads the records of a file, up to its fault.
+#[tactic(auto, using(crate::proofs::Unique::injective))]
 pub fn read<'a>(heap: Global, file: &'a [u8]) -> Result<Reading<'a>, AllocError>
     ensures read { IfOk result (λ x. Read file.now x) }
     ensures injective { Injective }
