@@ -1,11 +1,12 @@
 -- How large the terms of a price can be. Assumes nothing.
-use Rattle.std.proofs.Common.{◌≡◌, ℕ, ◌+◌, ◌-◌, ◌*◌, ◌/◌, ◌≤◌, mul-le-mul, arith}
+use Rattle.std.proofs.Common.{◌≡◌, ℕ, ◌+◌, ◌-◌, ◌*◌, ◌/◌, ◌≤◌, List, length, get_or, mul-le-mul, arith}
+use Rattle.std.proofs.lemmas.List.Sums.{sum_by-le}
 use Rattle.spreads.specs.Quotient.{Quotient}
 use Rattle.spreads.proofs.Table.{is_quotient}
 use Rattle.spreads.proofs.Limits.{quotient_le}
 use Rattle.spreads.proofs.Onward.{slots_from}
 use Rattle.pricing.specs.declared.work.Work.{Work}
-use Rattle.pricing.specs.Terms.{slots_between, most_stretch, half_of, most_half}
+use Rattle.pricing.specs.Terms.{slots_between, most_stretch, half_of, most_half, halves_of}
 
 -- d slots from s on
 module _ (s d : ℕ) (few : d ≤ 16) (soon : s ≤ 1023) where
@@ -25,6 +26,9 @@ pub half_le : (x : Work) → half_of x ≤ most_half
 half_le x =
     let short : x.length + 1 ≤ 17 = omega (arith, x.short) in
     omega (arith, mul-le-mul x.light short)
+
+pub halves_le : (xs : List Work) → length xs ≤ 24 → halves_of xs ≤ 24 * most_half
+halves_le xs few = let m : halves_of xs ≤ length xs * most_half = sum_by-le half_of most_half xs (λ i d h. half_le (get_or xs i d)) in omega arith
 
 -- the quotient of an entry's length
 module _ (x : Work) (q : ℕ) (is : Quotient x.length q) where

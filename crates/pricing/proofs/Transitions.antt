@@ -261,7 +261,7 @@ module _ (xs : List Work) (C C' : List Release) (R R' : List Rank) (left : List 
 
 -- what played is done
 module _ (xs : List Work) (C C' : List Release) (R : List Rank) (left : List ℕ) (spent at o s : ℕ)
-    (g : Going xs (Playing o s) C R left spent) (n : Next (Playing o s) left C C' (Some (Completion, at)))
+    (g : Going xs (Playing o s) C R left spent) (n : Next (Playing o s) left C C' (Some (Completion o s, at)))
     (cost : ℕ) (is : cost ≡ stretch_of (entry xs o) s at) (most : cost ≤ most_stretch) where
   lo : o < length left
   lo = omega (arith, g.on.0, g.few, g.places)

@@ -38,22 +38,27 @@ abbrev pub busy : State → ℕ
 busy (Idle s) = 0
 busy (Playing j s) = 1
 
--- when what plays is done, if nothing comes between; a moment past all releases where nothing plays
-abbrev pub end : State → List ℕ → ℕ
-end (Idle s) left = 65535
-end (Playing j s) left = s + slice_index left j
+-- the completion of what plays and its moment, if nothing comes between
+abbrev pub completion_of : State → List ℕ → Option (Event × ℕ)
+completion_of (Idle s) left = None
+completion_of (Playing j s) left = Some (Completion j s, s + slice_index left j)
 
 -- what plays has a place in the list, and is done soon enough
 abbrev pub Fine : List ℕ → State → Type 0
 Fine left (Idle s) = Unit {0}
-Fine left (Playing j s) = (j < length left) × (s + slice_index left j < 65535)
+Fine left (Playing j s) = (j < length left) × (s + slice_index left j < 65536)
+
+-- the moment t comes before what plays is done, if something plays
+abbrev pub Before : State → List ℕ → ℕ → Type 0
+Before (Idle s) left t = Unit {0}
+Before (Playing j s) left t = t < s + slice_index left j
 
 -- the next event and its moment: C was to come, and C' is to come after it. A release comes only before what plays is done.
 abbrev pub Next : State → List ℕ → List Release → List Release → Option (Event × ℕ) → Type 0
 Next state left C C' None = (busy state ≡ 0) × (length C ≡ 0)
 Next state left C C' (Some (Released j, at)) =
-    (x : Release) × (x.number ≡ j) × (x.slot ≡ at) × (at < end state left) × AllByRecursion (λ y. at ≤ y.slot) C × IsPermutation C (x ∷ C') × (at ≤ 255)
-Next state left C C' (Some (Completion, at)) = (busy state ≡ 1) × (at ≡ end state left) × AllByRecursion (λ y. at ≤ y.slot) C × (C' ≡ C)
+    (x : Release) × (x.number ≡ j) × (x.slot ≡ at) × Before state left at × AllByRecursion (λ y. at ≤ y.slot) C × IsPermutation C (x ∷ C') × (at ≤ 255)
+Next state left C C' (Some (Completion j s, at)) = (state ≡ Playing j s) × (at ≡ s + slice_index left j) × AllByRecursion (λ y. at ≤ y.slot) C × (C' ≡ C)
 
 -- c has the busy terms of what is built of the entries, whatever tickets they stand for
 abbrev pub Busy : List Work → ℕ → Type 0

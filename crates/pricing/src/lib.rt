@@ -15,4 +15,4 @@ mod step;
 mod terms;
 mod work;
 
-pub use prices::{floor, free_price, pinned_price, posted_releases};
+pub use prices::{LAST_START, PRICE_OF_ONE, Released};

@@ -3,86 +3,87 @@ ghost use Rattle.std.specs.Prelude.{◌≡◌, ◌≤◌, length};
 ghost use Rattle.tickets.specs.Collections.{posted};
 ghost use Rattle.spreads.specs.Spreads.{LeastPrice};
 ghost use Rattle.pricing.specs.Works.{Made};
-ghost use Rattle.pricing.specs.Prices.{PinnedAnswer, Floor, first_starts};
+ghost use Rattle.pricing.specs.Prices.{PinnedAnswer, Floor, start_of, first_starts};
 
-use crate::build::{build, build_pinned};
-use crate::work::Work;
+use crate::work::{Work, Works};
+use arrayvec::ArrayVec;
+use std::array;
 use tickets::{Collection, PlannerRefusal, Ticket};
 
 /// The last slot in which a ticket can start.
-const LAST_START: usize = 255;
+pub const LAST_START: usize = 255;
 
 /// A price of this much is a cost of one.
-const PRICE_OF_ONE: u64 = 720720;
+pub const PRICE_OF_ONE: u64 = 720720;
 
-/// The working entries of the tickets, none of them pinned.
-fn working_entries(tickets: &[Ticket], releases: &[u8; 24]) -> [Work; 24]
-    requires { length tickets.now ≤ 24 }
-    ensures { Made tickets.now releases.now (length tickets.now) result }
-{
-    let mut entries = [Work {
-        release: 0,
-        weight: 0,
-        length: 1,
-        pinned: false,
-    }; 24];
-    for i in 0..tickets.len() {
-        let ticket = tickets[i];
-        entries[i] = Work {
-            release: releases[i],
-            weight: ticket.weight,
-            length: ticket.length,
-            pinned: false,
-        };
-    }
-    entries
+/// The tickets of a collection, each with a release. The releases past the last ticket have no meaning.
+#[derive(Clone, Copy)]
+pub struct Released<'a> {
+    pub collection: &'a Collection,
+    pub releases: [u8; 24],
 }
 
-/// The least price of a spread of the tickets.
-pub fn free_price(collection: &Collection, releases: &[u8; 24]) -> u64
-    ensures { LeastPrice (posted collection.now) releases.now result }
+/// The first start of the ticket, and 0 where no ticket has the number.
+fn first_start(tickets: &[Ticket], number: usize) -> u8
+    ensures { result ≡ start_of tickets.now number }
 {
-    let tickets = collection.tickets();
-    let entries = working_entries(tickets, releases);
-    build(&entries[0..tickets.len()])
+    tickets.get(number).map_or(0, |ticket| ticket.first)
 }
 
-/// The least price of a spread in which the ticket has the slots from `start` on, whatever its release. Refused
-/// where no ticket has this number, and then where the start is past 255.
-pub fn pinned_price(
-    collection: &Collection,
-    releases: &[u8; 24],
-    ticket: usize,
-    start: usize,
-) -> Result<u64, PlannerRefusal>
-    ensures { PinnedAnswer (posted collection.now) releases.now ticket start result }
-{
-    let tickets = collection.tickets();
-    if ticket >= tickets.len() {
-        return Err(PlannerRefusal::NoSuchTicket);
+impl<'a> Released<'a> {
+    /// The tickets as posted: each is released at its first start, and the numbers that no ticket has at 0.
+    pub fn as_posted(collection: &'a Collection) -> Released<'a>
+        ensures same { result.collection.now ≡ collection.now }
+        ensures releases { result.releases ≡ first_starts (posted collection.now) }
+    {
+        let tickets = collection.tickets();
+        Released {
+            collection,
+            releases: array::from_fn(|number| first_start(tickets, number)),
+        }
     }
-    if start > LAST_START {
-        return Err(PlannerRefusal::NoSuchStart);
-    }
-    let mut entries = working_entries(tickets, releases);
-    Ok(build_pinned(&mut entries[0..tickets.len()], ticket, start as u8))
-}
 
-/// The free price divided by 720720, rounded up.
-pub fn floor(collection: &Collection, releases: &[u8; 24]) -> u64
-    ensures { Floor (posted collection.now) releases.now result }
-{
-    free_price(collection, releases).div_ceil(PRICE_OF_ONE)
-}
-
-/// The releases of the rows as posted: the first start of each ticket, and 0 for the numbers that no ticket has.
-pub fn posted_releases(collection: &Collection) -> [u8; 24]
-    ensures { result ≡ first_starts (posted collection.now) }
-{
-    let tickets = collection.tickets();
-    let mut releases = [0u8; 24];
-    for i in 0..tickets.len() {
-        releases[i] = tickets[i].first;
+    /// The working entries of the tickets, none of them pinned.
+    fn works(&self) -> Works
+        ensures { Made (posted self.now.collection.now) self.now.releases (length (posted self.now.collection.now)) result.entries.items }
+    {
+        let mut entries = ArrayVec::new();
+        for (ticket, release) in self.collection.tickets().iter().zip(&self.releases) {
+            entries.push(Work {
+                release: *release,
+                weight: ticket.weight,
+                length: ticket.length,
+                pinned: false,
+            });
+        }
+        Works { entries }
     }
-    releases
+
+    /// The least price of a spread of the tickets.
+    pub fn free_price(&self) -> u64
+        ensures { LeastPrice (posted self.now.collection.now) self.now.releases result }
+    {
+        self.works().build()
+    }
+
+    /// The least price of a spread in which the ticket has the slots from `start` on, whatever its release. Refused
+    /// where no ticket has this number, and then where the start is past 255.
+    pub fn pinned_price(&self, ticket: usize, start: usize) -> Result<u64, PlannerRefusal>
+        ensures { PinnedAnswer (posted self.now.collection.now) self.now.releases ticket start result }
+    {
+        if ticket >= self.collection.tickets().len() {
+            return Err(PlannerRefusal::NoSuchTicket);
+        }
+        if start > LAST_START {
+            return Err(PlannerRefusal::NoSuchStart);
+        }
+        Ok(self.works().build_pinned(ticket, start as u8))
+    }
+
+    /// The free price divided by 720720, rounded up.
+    pub fn floor(&self) -> u64
+        ensures { Floor (posted self.now.collection.now) self.now.releases result }
+    {
+        self.free_price().div_ceil(PRICE_OF_ONE)
+    }
 }

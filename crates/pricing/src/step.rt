@@ -12,6 +12,6 @@ pub(crate) enum State {
 pub(crate) enum Event {
     /// The ticket is released.
     Release(usize),
-    /// What plays is done.
-    Completion,
+    /// The ticket, which plays since then, is done.
+    Completion { ticket: usize, since: u16 },
 }

@@ -2,11 +2,11 @@ use Rattle.std.proofs.Common.{◌≡◌, length}
 use Rattle.heap.specs.Waiting.{waiting, room, Sound}
 use Rattle.pricing.specs.Keys.{sooner, higher}
 use Rattle.pricing.proofs.Going.{Going, events}
-use Rattle.pricing.proofs.build.play.Given as goal
+use Rattle.pricing.proofs.work.Works.play.Given as goal
 
 abbrev pub invariant-loop-event : goal.invariant-loop-event
 invariant-loop-event l =
-    Sound sooner l.coming × Sound higher l.ready × (room l.ready ≡ 24) × Going l.entries l.state (waiting l.coming) (waiting l.ready) l.left l.spent
+    Sound sooner l.coming × Sound higher l.ready × (room l.ready ≡ 24) × Going l.self.entries.items l.state (waiting l.coming) (waiting l.ready) l.left l.spent
 
 abbrev pub decreases-loop-event : goal.decreases-loop-event
 decreases-loop-event l = events l.state (length (waiting l.coming)) (length (waiting l.ready))
