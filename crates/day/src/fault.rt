@@ -17,6 +17,8 @@ pub enum Refusal {
     Ticket(TicketRefusal),
 }
 
+// Not one type with `FileFault`, over any refusal: only the crate of a type can give it `Display` and `From`.
+
 /// A refusal and its place in the file.
 #[derive(Clone, Copy, Debug, PartialEq)]
 pub struct Fault {

@@ -5,10 +5,13 @@ ghost use Rattle.day.specs.Contents.{banned, gathered};
 ghost use Rattle.day.specs.Texts.{rows, ban_line, Lists};
 
 use crate::contents::{Ban, Contents};
-use pricing::{floor, posted_releases};
+use pricing::Released;
 use std::alloc::{AllocError, Global};
 use std::fmt::Write;
 use tickets::Ticket;
+
+// Not one function over anything that prints, with the bans: what a ticket prints has its number with it, and a
+// function over an iterator's lines says less plainly what is added.
 
 /// Adds the rows of the tickets, numbered from 0.
 fn push_rows(text: &mut String, tickets: &[Ticket]) -> Result<(), AllocError>
@@ -34,8 +37,7 @@ fn push_bans(text: &mut String, bans: &[Ban]) -> Result<(), AllocError>
 pub(crate) fn listing(heap: Global, contents: &Contents) -> Result<String, AllocError>
     ensures { IfOk result (λ s. Lists (gathered contents.now) (string_bytes s)) }
 {
-    let releases = posted_releases(&contents.collection);
-    let floor = floor(&contents.collection, &releases);
+    let floor = Released::as_posted(&contents.collection).floor();
     let ceiling = contents.collection.ceiling();
     let mut text = format!(in heap; "floor {floor}\nceiling {ceiling}\n")?;
     push_rows(&mut text, contents.collection.tickets())?;
