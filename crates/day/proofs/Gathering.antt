@@ -1,14 +1,9 @@
 -- Gathering records one by one, and their judge. Assumes nothing.
-use Rattle.std.proofs.Common.{◌≡◌, ℕ, ◌<◌, List, [], ◌∷◌, ◌++◌, sym, refl, subst, arith}
-use Rattle.tickets.specs.Refusals.{Clear}
+use Rattle.std.proofs.Common.{◌≡◌, ◌<◌, List, [], ◌∷◌, ◌++◌, refl, arith}
 use Rattle.tickets.specs.declared.refusal.TicketRefusal.{TicketRefusal}
 use Rattle.tickets.specs.declared.refusal.TicketRefusal.TheVariants.{OutsideLimits, TooManyTickets, CeilingTooHigh}
-use Rattle.ticket_file.specs.Format.{Rec, ban}
-use Rattle.day.specs.Judging.{Gathered, with_record, gather, judging, posting}
-
--- a ban is always taken
-pub ban_taken : (g h : Gathered) (r : Rec) (i s : ℕ) → r ≡ ban i s → h ≡ record { held = g.held; bans = g.bans ++ (i, s) ∷ [] } → Clear (judging g) r × (h ≡ with_record g r)
-ban_taken g h r i s e is = subst (λ x. Clear (judging g) x × (h ≡ with_record g x)) (sym e) ((λ d m. m), is)
+use Rattle.ticket_file.specs.Format.{Rec}
+use Rattle.day.specs.Judging.{Gathered, with_record, gather, posting}
 
 -- one record more
 pub gather_push : (g : Gathered) (rs : List Rec) (r : Rec) → gather g (rs ++ r ∷ []) ≡ with_record (gather g rs) r
@@ -23,11 +18,11 @@ later CeilingTooHigh = omega arith
 
 pub apart : (d e : TicketRefusal) → (posting d).number ≡ (posting e).number → d ≡ e
 apart OutsideLimits OutsideLimits h = refl
-apart OutsideLimits TooManyTickets h = absurd (omega arith)
-apart OutsideLimits CeilingTooHigh h = absurd (omega arith)
-apart TooManyTickets OutsideLimits h = absurd (omega arith)
+apart OutsideLimits TooManyTickets h = cc
+apart OutsideLimits CeilingTooHigh h = cc
+apart TooManyTickets OutsideLimits h = cc
 apart TooManyTickets TooManyTickets h = refl
-apart TooManyTickets CeilingTooHigh h = absurd (omega arith)
-apart CeilingTooHigh OutsideLimits h = absurd (omega arith)
-apart CeilingTooHigh TooManyTickets h = absurd (omega arith)
+apart TooManyTickets CeilingTooHigh h = cc
+apart CeilingTooHigh OutsideLimits h = cc
+apart CeilingTooHigh TooManyTickets h = cc
 apart CeilingTooHigh CeilingTooHigh h = refl

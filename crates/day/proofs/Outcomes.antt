@@ -1,20 +1,21 @@
 -- What a file comes to, from its reading and the judging of its records. Assumes nothing.
-use Rattle.std.proofs.Common.{◌≡◌, ℕ, ◌+◌, ◌<◌, ◌≤◌, List, [], ◌∷◌, ◌++◌, map, length, get_or, take, drop, Some, None, Ok, Err, vec_items, string_bytes, Option, Result, sym, ap, ◌∙◌, subst, inl, inr, ⊎_elim, arith, length-append, take-append-drop}
+use Rattle.std.proofs.Common.{◌≡◌, ℕ, ◌+◌, ◌<◌, ◌≤◌, List, [], ◌∷◌, ◌++◌, map, length, get_or, take, drop, Some, None, Ok, Err, vec_items, string_bytes, Option, sym, ap, ◌∙◌, subst, inl, inr, ⊎_elim, arith, length-append, take-append-drop}
 use lib.ListN.{length-map}
 use Rattle.std.specs.List.{flat_map}
 use Rattle.std.proofs.lemmas.List.{take_more, drop_more, get_or-map, take_all}
 use Rattle.tickets.specs.Refusals.{Answers, Clear}
-use Rattle.tickets.specs.declared.refusal.TicketRefusal.{TicketRefusal}
 use Rattle.ticket_file.specs.declared.refusal.FileFault.{FileFault}
 use Rattle.ticket_file.specs.declared.record.Placed.{Placed}
 use Rattle.ticket_file.specs.declared.record.Record.TheVariants.{Ticket as TicketRecord}
-use Rattle.ticket_file.specs.declared.stage.Reading.{Reading}
+use Rattle.ticket_file.specs.declared.reading.Reading.{Reading}
 use Rattle.ticket_file.specs.Format.{Rec, bytes, file_of}
 use Rattle.ticket_file.specs.Faults.{no_judge, Taken, Upto, form, contents, Faulty}
 use Rattle.ticket_file.specs.Readings.{plain, seen, Ends, Read}
 use Rattle.ticket_file.proofs.Unique.{injective}
 use Rattle.ticket_file.proofs.Verdicts.{whole_upto, refuses_contents, held_is_well, one_fault}
 use Rattle.ticket_file.proofs.Judged.{takes_more, leads_up, stands, comes, judged, form_fault, handed_all, handed_at}
+use Rattle.day.specs.declared.contents.GatherError.{GatherError}
+use Rattle.day.specs.declared.contents.GatherError.TheVariants.{Refused, OutOfMemory}
 use Rattle.day.specs.declared.fault.Refusal.{Refusal}
 use Rattle.day.specs.declared.fault.Refusal.TheVariants.{File, Ticket}
 use Rattle.day.specs.declared.fault.Fault.{Fault}
@@ -22,7 +23,7 @@ use Rattle.day.specs.declared.report.Report.{Report}
 use Rattle.day.specs.Judging.{Gathered, nothing, with_record, gather, judging, posting, reason}
 use Rattle.day.specs.Contents.{Took}
 use Rattle.day.specs.Texts.{Lists, fault_line}
-use Rattle.day.specs.Reports.{Accepted, Reported}
+use Rattle.day.specs.Reports.{Accepted, Outcome, Reported}
 use Rattle.day.proofs.Gathering.{gather_push, later, apart}
 
 -- what a reading past the end of a slice of records stands for
@@ -53,11 +54,8 @@ Sofar xs k g = Taken posting (take k (recs xs)) × (g ≡ gather nothing (take k
 pub no_record : (xs : List Placed) (g : Gathered) → g ≡ nothing → Sofar xs 0 g
 no_record xs g e = ((λ before after r same. absurd (omega (arith, ap length same, length-append before (r ∷ after)))), e)
 
-pub next_record : (xs : List Placed) (k : ℕ) (d : Placed) (g h : Gathered) (x : Result Unit TicketRefusal) (u : Unit) → x ≡ Ok u → k < length xs → Sofar xs k g → Took g (plain (get_or xs k d).record) (Ok x) h → Sofar xs (k + 1) h
-next_record xs k d g h x u ok lt (taken, is) told =
-    let took = subst (λ y. Took g (plain (get_or xs k d).record) (Ok y) h) ok told in
-    let clear = took.0 in
-    let more = took.1 in
+pub next_record : (xs : List Placed) (k : ℕ) (d : Placed) (g h : Gathered) (u : Unit) → k < length xs → Sofar xs k g → Took g (plain (get_or xs k d).record) (get_or xs k d).place (Ok u) h → Sofar xs (k + 1) h
+next_record xs k d g h u lt (taken, is) (clear, more) =
     let r = plain (get_or xs k d).record in
     let all = take k (recs xs) in
     subst (λ l. Taken posting l × (h ≡ gather nothing l)) (sym (one_more xs k d lt)) (
@@ -75,10 +73,10 @@ module _ (file : List ℕ) (x : Reading) (read : Read file x) (xs : List Placed)
   some_read (Some f) (b, front) lt = ⊎_elim (λ h. absurd (omega (arith, ap length h.1))) (λ u. (f.place, u)) front
 
   -- the first record that is refused is the fault
-  pub contents_fault : (k : ℕ) (d : Placed) (g h : Gathered) (y : Result Unit TicketRefusal) (e : TicketRefusal) → y ≡ Err e → k < length xs → Sofar xs k g → Took g (plain (get_or xs k d).record) (Ok y) h → Faulty posting file (contents e) (get_or xs k d).place
+  pub contents_fault : (k : ℕ) (d : Placed) (g h : Gathered) (e : GatherError) → k < length xs → Sofar xs k g → Took g (plain (get_or xs k d).record) (get_or xs k d).place (Err e) h → Outcome file (Err e)
   unfolding file_of
-  contents_fault k d g h y e err lt (taken, is) told =
-      let answers = (subst (λ z. Took g (plain (get_or xs k d).record) (Ok z) h) err told).0 in
+  contents_fault k d g h OutOfMemory lt sofar told = tt
+  contents_fault k d g h (Refused f) lt (taken, is) ((e, answers, at), left) =
       let r = plain (get_or xs k d).record in
       let before = take k (recs xs) in
       let after = drop (k + 1) (recs xs) in
@@ -86,8 +84,9 @@ module _ (file : List ℕ) (x : Reading) (read : Read file x) (xs : List Placed)
       let upto : Upto no_judge file some.0 (before ++ r ∷ after) = subst (Upto no_judge file some.0) (sym are ∙ around xs k d lt) some.1 in
       let refused = subst (λ x. Answers (judging x) r e) is answers in
       let place : (get_or xs k d).place ≡ length (file_of before) = handed_at 5 xs read.rs k d (ap (map seen) same ∙ read.handed) lt ∙ ap (λ l. 5 + length (flat_map bytes (take k l))) (sym are) ∙ omega arith in
-      subst (Faulty posting file (contents e)) (sym place)
-      (refuses_contents posting later file (length (file_of before)) before r e (judged posting file _ before (leads_up file _ before after r upto) taken) (stands file _ before after r upto) (comes file _ before after r upto) (record { meets = refused.meets; first = refused.first }))
+      subst (λ y. Faulty posting file (reason y.refusal) y.place) (sym at)
+      (subst (Faulty posting file (contents e)) (sym place)
+      (refuses_contents posting later file (length (file_of before)) before r e (judged posting file _ before (leads_up file _ before after r upto) taken) (stands file _ before after r upto) (comes file _ before after r upto) (record { meets = refused.meets; first = refused.first })))
 
   all_taken : (k : ℕ) (g : Gathered) → length xs ≤ k → Sofar xs k g → Taken posting read.rs × (g ≡ gather nothing read.rs)
   all_taken k g h s = subst (λ l. Taken posting l × (g ≡ gather nothing l)) (take_all k (recs xs) (omega (arith, length-map xs (λ x. plain x.record))) ∙ are) s
@@ -106,10 +105,10 @@ module _ (file : List ℕ) (x : Reading) (read : Read file x) (xs : List Placed)
 
 -- a refusal is told by its reason
 same_refusal : (v w : Refusal) → reason v ≡ reason w → v ≡ w
-same_refusal (File f) (File g) e = let same : f ≡ g = cc in ap File same
-same_refusal (File f) (Ticket d) e = let z : ◌≡◌ {A = ℕ} 0 1 = cc in absurd (omega arith)
-same_refusal (Ticket d) (File g) e = let z : ◌≡◌ {A = ℕ} 0 1 = cc in absurd (omega arith)
-same_refusal (Ticket d) (Ticket c) e = let same : d ≡ c = cc in ap Ticket same
+same_refusal (File f) (File g) e = cc
+same_refusal (File f) (Ticket d) e = cc
+same_refusal (Ticket d) (File g) e = cc
+same_refusal (Ticket d) (Ticket c) e = cc
 
 -- the report on a file that is accepted
 pub reports_listing : (file : List ℕ) (x : Report) (g : Gathered) (rs : List Rec) → Accepted file rs → g ≡ gather nothing rs → x.fault ≡ None → Lists g (string_bytes x.text) → Reported file x

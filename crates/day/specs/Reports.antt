@@ -1,11 +1,12 @@
 -- What the report on a file is. Assumes nothing.
-use Rattle.std.specs.Prelude.{◌≡◌, ℕ, ◌⊎◌, List, Some, None, Ok, Err, string_bytes, Result}
+use Rattle.std.specs.Prelude.{◌≡◌, ℕ, ◌⊎◌, List, Some, None, Ok, Err, string_bytes, Result, ⊤}
 use Rattle.tickets.specs.declared.refusal.TicketRefusal.{TicketRefusal}
 use Rattle.ticket_file.specs.Format.{Rec, Holds}
 use Rattle.ticket_file.specs.Faults.{Taken, Reason, Faulty}
 use Rattle.day.specs.declared.contents.Contents.{Contents}
+use Rattle.day.specs.declared.contents.GatherError.{GatherError}
+use Rattle.day.specs.declared.contents.GatherError.TheVariants.{Refused, OutOfMemory}
 use Rattle.day.specs.declared.fault.Refusal.{Refusal}
-use Rattle.day.specs.declared.fault.Fault.{Fault}
 use Rattle.day.specs.declared.report.Report.{Report}
 use Rattle.day.specs.Judging.{nothing, gather, posting, reason}
 use Rattle.day.specs.Contents.{gathered}
@@ -16,10 +17,11 @@ pub record Accepted (file : List ℕ) (rs : List Rec) : Type 0 where
   pub holds : Holds file rs
   pub taken : Taken posting rs
 
--- what the records of a file came to, or its fault
-abbrev pub Outcome : List ℕ → Result Contents Fault → Type 0
+-- what the records of a file came to, or its fault; where there was no memory, nothing is said
+abbrev pub Outcome : List ℕ → Result Contents GatherError → Type 0
 Outcome file (Ok c) = (rs : List Rec) × Accepted file rs × (gathered c ≡ gather nothing rs)
-Outcome file (Err f) = Faulty posting file (reason f.refusal) f.place
+Outcome file (Err (Refused f)) = Faulty posting file (reason f.refusal) f.place
+Outcome file (Err OutOfMemory) = ⊤
 
 -- The report on a file. Each file is accepted or faulty. The report is a listing of what the records come to
 -- exactly when the file is accepted with them, and a fault's line exactly when that is the file's fault.

@@ -26,6 +26,10 @@ abbrev pub rows : ℕ → List Terms → List ℕ
 rows k [] = []
 rows k (t ∷ ts) = row_line k t ++ rows (k + 1) ts
 
+-- a ban as it prints
+abbrev pub ban_text : ℕ × ℕ → List ℕ
+ban_text (i, s) = codes "ban " ++ (decimal i ++ (codes " " ++ decimal s))
+
 -- the line of a ban
 abbrev pub ban_line : ℕ × ℕ → List ℕ
 ban_line (i, s) = codes "ban " ++ (decimal i ++ (codes " " ++ (decimal s ++ 10 ∷ [])))
@@ -46,6 +50,10 @@ Lists g text = (f : ℕ) × FloorOf g.held.tickets f × (text ≡ floor_line f +
 abbrev pub layer : Reason TicketRefusal → List ℕ
 layer (form f) = codes "file"
 layer (contents e) = codes "ticket"
+
+-- a fault as it prints: its layer, number and place
+abbrev pub fault_text : Reason TicketRefusal → ℕ → List ℕ
+fault_text w p = codes "fault " ++ (layer w ++ (codes " " ++ (decimal (fault posting w).number ++ (codes " " ++ decimal p))))
 
 -- the line of a fault: its layer, number and place
 abbrev pub fault_line : Reason TicketRefusal → ℕ → List ℕ

@@ -1,19 +1,62 @@
-ghost use Rattle.std.specs.Prelude.{◌≡◌, IfOk};
+ghost use Rattle.std.specs.Prelude.{◌≡◌, Some};
 ghost use Rattle.ticket_file.specs.Readings.{plain};
+ghost use Rattle.day.specs.declared.contents.GatherError.TheVariants.{Refused, OutOfMemory};
 ghost use Rattle.day.specs.Judging.{nothing};
-ghost use Rattle.day.specs.Contents.{gathered, Took};
+ghost use Rattle.day.specs.Contents.{banned, gathered, Took};
 ghost use Rattle.day.specs.Reports.{Outcome};
+ghost use Rattle.day.specs.Texts.{ban_text};
 
-use crate::fault::{Fault, Refusal};
-use std::alloc::{AllocError, Global};
-use ticket_file::Record;
+use crate::fault::Fault;
+use std::alloc::{AllocError, AllocFailed, Global};
+use std::fmt;
+use ticket_file::{Placed, Record};
 use tickets::{Collection, TicketRefusal};
+
+/// Why the records of a file are not all gathered.
+#[derive(Clone, Copy)]
+pub(crate) enum GatherError {
+    /// The file has a fault.
+    Refused(Fault),
+    OutOfMemory,
+}
+
+impl From<Fault> for GatherError {
+    ghost from_gives = { λ f e. e ≡ Refused f };
+
+    fn from(fault: Fault) -> GatherError {
+        GatherError::Refused(fault)
+    }
+}
+
+impl From<AllocError> for GatherError {
+    ghost from_gives = { λ _ e. e ≡ OutOfMemory };
+
+    fn from(_error: AllocError) -> GatherError {
+        GatherError::OutOfMemory
+    }
+}
+
+impl<T: Drop> From<AllocFailed<T>> for GatherError {
+    ghost from_gives = { λ _ e. e ≡ OutOfMemory };
+
+    fn from(_failed: AllocFailed<T>) -> GatherError {
+        GatherError::OutOfMemory
+    }
+}
 
 /// A start that a file wants banned.
 #[derive(Clone, Copy)]
 pub(crate) struct Ban {
     pub(crate) ticket: u8,
     pub(crate) start: u8,
+}
+
+impl fmt::Display for Ban {
+    ghost output = { λ b. Some (ban_text (banned b)) };
+
+    fn fmt<W: fmt::Write>(&self, f: &mut fmt::Formatter<W>) -> fmt::Result {
+        write!(f, "ban {} {}", self.ticket, self.start)
+    }
 }
 
 /// What the records of a file came to.
@@ -35,47 +78,35 @@ impl Contents {
     }
 
     /// Judges a record, and takes it in unless it is refused.
-    fn take(&mut self, item: &Record<'_>) -> Result<Result<(), TicketRefusal>, AllocError>
-        ensures { Took (gathered self.old) (plain item.now) result (gathered self.new) }
+    fn take(&mut self, placed: &Placed<'_>) -> Result<(), GatherError>
+        ensures { Took (gathered self.old) (plain placed.now.record) placed.now.place result (gathered self.new) }
     {
-        match item {
-            Record::Ticket { terms, label: _ } => match self.collection.post(*terms) {
-                Ok(_) => Ok(Ok(())),
-                Err(refusal) => Ok(Err(refusal)),
-            },
-            Record::Ceiling { ceiling } => Ok(self.collection.set_ceiling(*ceiling)),
-            Record::Ban { ticket, start } => {
-                let ban = Ban {
-                    ticket: *ticket,
-                    start: *start,
-                };
-                self.bans.push(ban)?;
-                Ok(Ok(()))
+        let refused = |refusal: TicketRefusal| Fault {
+            refusal: refusal.into(),
+            place: placed.place,
+        };
+        match placed.record {
+            Record::Ticket { terms, label: _ } => {
+                self.collection.post(terms).map_err(refused)?;
             }
+            Record::Ceiling { ceiling } => self.collection.set_ceiling(ceiling).map_err(refused)?,
+            Record::Ban { ticket, start } => self.bans.push(Ban { ticket, start })?,
         }
+        Ok(())
     }
 }
 
 /// Judges and takes in the records of a file, one after the other, up to its fault.
-pub(crate) fn gather(heap: Global, file: &[u8]) -> Result<Result<Contents, Fault>, AllocError>
-    ensures { IfOk result (λ x. Outcome file.now x) }
+pub(crate) fn gather(heap: Global, file: &[u8]) -> Result<Contents, GatherError>
+    ensures { Outcome file.now result }
 {
     let reading = ticket_file::read(heap, file)?;
     let mut contents = Contents::new(heap);
-    let records = reading.records.as_slice();
-    for placed in records {
-        if let Err(refusal) = contents.take(&placed.record)? {
-            return Ok(Err(Fault {
-                refusal: Refusal::Ticket(refusal),
-                place: placed.place,
-            }));
-        }
+    for placed in &reading.records {
+        contents.take(placed)?;
     }
     match reading.fault {
-        Some(fault) => Ok(Err(Fault {
-            refusal: Refusal::File(fault.refusal),
-            place: fault.place,
-        })),
-        None => Ok(Ok(contents)),
+        Some(fault) => Err(Fault::from(fault).into()),
+        None => Ok(contents),
     }
 }

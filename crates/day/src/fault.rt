@@ -1,9 +1,11 @@
-ghost use Rattle.std.specs.Prelude.{◌≡◌};
+ghost use Rattle.std.specs.Prelude.{◌≡◌, Some};
 ghost use Rattle.ticket_file.specs.Faults.{fault as meaning};
 ghost use Rattle.day.specs.Judging.{posting, reason};
-ghost use Rattle.day.specs.Texts.{layer as word};
+ghost use Rattle.day.specs.Texts.{layer as word, fault_text};
+ghost use Rattle.day.specs.declared.fault.Refusal.TheVariants.{File, Ticket};
 
-use ticket_file::FileRefusal;
+use std::fmt;
+use ticket_file::{FileFault, FileRefusal};
 use tickets::TicketRefusal;
 
 /// Why a file is refused, by the layer that refuses it.
@@ -15,11 +17,50 @@ pub enum Refusal {
     Ticket(TicketRefusal),
 }
 
+// Not one type with `FileFault`, over any refusal: only the crate of a type can give it `Display` and `From`.
+
 /// A refusal and its place in the file.
 #[derive(Clone, Copy, Debug, PartialEq)]
 pub struct Fault {
     pub refusal: Refusal,
     pub place: usize,
+}
+
+impl From<FileRefusal> for Refusal {
+    ghost from_gives = { λ f r. r ≡ File f };
+
+    fn from(form: FileRefusal) -> Refusal {
+        Refusal::File(form)
+    }
+}
+
+impl From<TicketRefusal> for Refusal {
+    ghost from_gives = { λ e r. r ≡ Ticket e };
+
+    fn from(contents: TicketRefusal) -> Refusal {
+        Refusal::Ticket(contents)
+    }
+}
+
+impl From<FileFault> for Fault {
+    ghost from_gives = { λ f g. g ≡ record { refusal = File f.refusal; place = f.place } };
+
+    fn from(fault: FileFault) -> Fault {
+        Fault {
+            refusal: fault.refusal.into(),
+            place: fault.place,
+        }
+    }
+}
+
+impl fmt::Display for Fault {
+    ghost output = { λ f. Some (fault_text (reason f.refusal) f.place) };
+
+    fn fmt<W: fmt::Write>(&self, f: &mut fmt::Formatter<W>) -> fmt::Result {
+        let layer = self.refusal.layer();
+        let number = self.refusal.number();
+        write!(f, "fault {layer} {number} {}", self.place)
+    }
 }
 
 impl Refusal {

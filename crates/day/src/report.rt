@@ -1,9 +1,9 @@
 ghost use Rattle.std.specs.Prelude.{IfOk};
 ghost use Rattle.day.specs.Reports.{Reported};
 
-use crate::contents::gather;
+use crate::contents::{GatherError, gather};
 use crate::fault::Fault;
-use crate::text::{fault_line, listing};
+use crate::text::listing;
 use std::alloc::{AllocError, Global};
 
 /// What a file comes to: the text to print, which is the listing or the line of the fault.
@@ -17,14 +17,15 @@ pub struct Report {
 pub fn report_on(heap: Global, file: &[u8]) -> Result<Report, AllocError>
     ensures { IfOk result (λ x. Reported file.now x) }
 {
-    match gather(heap, file)? {
+    match gather(heap, file) {
         Ok(contents) => Ok(Report {
             text: listing(heap, &contents)?,
             fault: None,
         }),
-        Err(fault) => Ok(Report {
-            text: fault_line(heap, fault)?,
+        Err(GatherError::Refused(fault)) => Ok(Report {
+            text: format!(in heap; "{fault}\n")?,
             fault: Some(fault),
         }),
+        Err(GatherError::OutOfMemory) => Err(AllocError),
     }
 }

@@ -14,7 +14,7 @@ fn print_report(rt: &HostRuntime) -> anyhow::Result<Option<Fault>> {
     let heap = rt.alloc();
     let mut file = Vec::new(heap);
     rt.stdin().take(ENOUGH_BYTES).read_to_end(&mut file)?;
-    let report = day::report_on(heap, file.as_slice())?;
+    let report = day::report_on(heap, &file)?;
     rt.print(report.text.as_str())?;
     Ok(report.fault)
 }

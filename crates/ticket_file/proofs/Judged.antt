@@ -2,6 +2,7 @@
 use Rattle.std.proofs.Common.{◌≡◌, ℕ, zero, suc, ◌+◌, ◌<◌, ◌⊎◌, List, [], ◌∷◌, ◌++◌, map, length, get_or, take, drop, sym, refl, ap, ◌∙◌, subst, inl, inr, ⊎_elim, append_assoc, arith, length-append}
 use Rattle.std.specs.List.{flat_map}
 use Rattle.std.proofs.lemmas.List.{take_at, drop_at, length-take-le}
+use Rattle.std.proofs.lemmas.Grind.{flat_map-append}
 use Rattle.tickets.specs.Refusals.{Clear}
 use Rattle.ticket_file.specs.declared.refusal.FileRefusal.{FileRefusal}
 use Rattle.ticket_file.specs.declared.refusal.FileRefusal.TheVariants.{TooLong, NotATicketFile, OtherVersion, PastEnd, UnknownKind, BodyLength, OutOfOrder}
@@ -26,10 +27,6 @@ pub takes_more : {E : Type 0} (j : Judge E) (rs : List Rec) (r : Rec) → Taken 
 takes_more j rs r t clear before after q same e m =
     ⊎_elim (λ h. t before h.0 q h.1 e m) (λ h. clear e (subst (λ x. (j e).meets x) (λ i. (h.0 i, h.1 i)) m)) (split_last rs before after r q same)
 
-joined_mid : (before after : List Rec) (r : Rec) → flat_map bytes (before ++ r ∷ after) ≡ flat_map bytes before ++ (bytes r ++ flat_map bytes after)
-joined_mid [] after r = refl
-joined_mid (b ∷ before) after r = ap (λ l. bytes b ++ l) (joined_mid before after r) ∙ sym (append_assoc (bytes b) (flat_map bytes before) (bytes r ++ flat_map bytes after))
-
 -- a record among those that were read: those before it lead up to it, and it comes in order
 module _ (file : List ℕ) (q : ℕ) (before after : List Rec) (r : Rec) (u : Upto no_judge file q (before ++ r ∷ after)) where
   rest : List ℕ
@@ -38,7 +35,7 @@ module _ (file : List ℕ) (q : ℕ) (before after : List Rec) (r : Rec) (u : Up
   whole : file ≡ file_of before ++ (bytes r ++ rest)
   unfolding file_of rest
   whole =
-      parts file q (before ++ r ∷ after) u.is ∙ ap (λ l. header ++ (l ++ drop q file)) (joined_mid before after r) ∙ ap (λ l. header ++ l) (append_assoc (flat_map bytes before) (bytes r ++ flat_map bytes after) (drop q file)) ∙ ap (λ l. header ++ (flat_map bytes before ++ l)) (append_assoc (bytes r) (flat_map bytes after) (drop q file))
+      parts file q (before ++ r ∷ after) u.is ∙ ap (λ l. header ++ (l ++ drop q file)) (flat_map-append bytes before (r ∷ after)) ∙ ap (λ l. header ++ l) (append_assoc (flat_map bytes before) (bytes r ++ flat_map bytes after) (drop q file)) ∙ ap (λ l. header ++ (flat_map bytes before ++ l)) (append_assoc (bytes r) (flat_map bytes after) (drop q file))
 
   pub leads_up : Upto no_judge file (length (file_of before)) before
   leads_up = record {
@@ -60,22 +57,22 @@ module _ (file : List ℕ) (q : ℕ) (before after : List Rec) (r : Rec) (u : Up
   pub comes : Begins (kinds before ++ kind r ∷ [])
   comes = begins_mid before after r u.begins
 
+-- what is wrong with the form for one judge is so for another that takes the records before it
+across : {D E : Type 0} (i : Judge D) (j : Judge E) (file : List ℕ) (p : ℕ) → ((Ill : List ℕ → ℕ → List Rec → Type 0) → After i Ill (file, p) → After j Ill (file, p)) → (f : FileRefusal) → (fault i (form f)).meets (file, p) → (fault j (form f)).meets (file, p)
+across i j file p move TooLong m = m
+across i j file p move NotATicketFile m = m
+across i j file p move OtherVersion m = m
+across i j file p move PastEnd m = move PassesEnd m
+across i j file p move UnknownKind m = move Unknown m
+across i j file p move BodyLength m = move Misfit m
+across i j file p move OutOfOrder m = move Disordered m
+
 module _ {E : Type 0} (j : Judge E) where
   pub judged : (file : List ℕ) (p : ℕ) (rs : List Rec) → Upto no_judge file p rs → Taken j rs → Upto j file p rs
   judged file p rs u t = record { small = u.small; within = u.within; is = u.is; fit = u.fit; begins = u.begins; taken = t }
 
   unjudged : (Ill : List ℕ → ℕ → List Rec → Type 0) (file : List ℕ) (p : ℕ) → After j Ill (file, p) → After no_judge Ill (file, p)
   unjudged Ill file p (rs, u, b) = (rs, record { small = u.small; within = u.within; is = u.is; fit = u.fit; begins = u.begins; taken = λ _ _ _ _ e _. absurd e }, b)
-
-  -- what is wrong with the form is so without a judge
-  weaker : (f : FileRefusal) (file : List ℕ) (p : ℕ) → (fault j (form f)).meets (file, p) → (fault no_judge (form f)).meets (file, p)
-  weaker TooLong file p m = m
-  weaker NotATicketFile file p m = m
-  weaker OtherVersion file p m = m
-  weaker PastEnd file p m = unjudged PassesEnd file p m
-  weaker UnknownKind file p m = unjudged Unknown file p m
-  weaker BodyLength file p m = unjudged Misfit file p m
-  weaker OutOfOrder file p m = unjudged Disordered file p m
 
   module _ (file : List ℕ) (p : ℕ) (rs : List Rec) (front : ((p < 5) × (rs ≡ [])) ⊎ Upto no_judge file p rs) (t : Taken j rs) where
     -- the records that lead up to p are the ones that the judge takes
@@ -89,18 +86,9 @@ module _ {E : Type 0} (j : Judge E) where
         (qs, judged file p qs u (subst (Taken j) same t), b))
         front
 
-    stronger : (f : FileRefusal) → (fault no_judge (form f)).meets (file, p) → (fault j (form f)).meets (file, p)
-    stronger TooLong m = m
-    stronger NotATicketFile m = m
-    stronger OtherVersion m = m
-    stronger PastEnd m = rejudged PassesEnd m
-    stronger UnknownKind m = rejudged Unknown m
-    stronger BodyLength m = rejudged Misfit m
-    stronger OutOfOrder m = rejudged Disordered m
-
     -- where the judge takes all records before it, the fault of the form is the file's
     pub form_fault : ((e : E) → 7 < (j e).number) → (f : FileRefusal) → Faulty no_judge file (form f) p → Faulty j file (form f) p
-    form_fault later f b = record { meets = stronger f b.meets; first = lower }
+    form_fault later f b = record { meets = across no_judge j file p rejudged f b.meets; first = lower }
       where
         same_number : (g : FileRefusal) → (fault j (form g)).number ≡ (fault no_judge (form g)).number
         same_number TooLong = refl
@@ -112,7 +100,7 @@ module _ {E : Type 0} (j : Judge E) where
         same_number OutOfOrder = refl
 
         lower : (v : Reason E) (q : ℕ) → (fault j v).number < (fault j (form f)).number → (fault j v).meets (file, q) → ⊥
-        lower (form g) q lt m = b.first (form g) q (omega (arith, same_number g, same_number f)) (weaker g file q m)
+        lower (form g) q lt m = b.first (form g) q (omega (arith, same_number g, same_number f)) (across j no_judge file q (λ Ill. unjudged Ill file q) g m)
         lower (contents e) q lt m = omega (arith, later e, form_low j f)
 
 rec_of_spot : (p : ℕ) (r : Rec) → (spot p r).rec ≡ r

@@ -1,5 +1,4 @@
 pub mod Unique
-mod Fronts
 mod Orders
 mod Steps
 mod Whole

@@ -1,5 +1,5 @@
 -- The order of the kinds. Assumes nothing.
-use Rattle.std.proofs.Common.{◌≡◌, ℕ, zero, suc, ◌+◌, ◌⊎◌, List, [], ◌∷◌, ◌++◌, length, replicate, sym, ap, ◌∙◌, inl, inr, ⊎_elim, append_assoc, append-nil, arith}
+use Rattle.std.proofs.Common.{◌≡◌, ℕ, zero, suc, ◌+◌, ◌⊎◌, List, [], ◌∷◌, ◌++◌, length, get_or, replicate, sym, ap, ◌∙◌, inl, inr, ⊎_elim, append_assoc, append-nil, arith}
 use Rattle.std.proofs.lemmas.List.{replicate_more}
 use Rattle.ticket_file.specs.declared.stage.Stage.{Stage}
 use Rattle.ticket_file.specs.declared.stage.Stage.TheVariants.{Tickets, Bans}
@@ -12,30 +12,21 @@ follows_begin Tickets ks (m, e) = (67 ∷ [], (m, 0, ap (λ l. l ++ 67 ∷ []) e
 follows_begin Bans ks (m, n, e) = ([], (m, n, append-nil ks ∙ e))
 
 -- what may come next
-pub one_ticket : (s : Stage) (k : ℕ) → s ≡ Tickets → k ≡ 84 → (ks : List ℕ) → Follows s ks → Follows Tickets (ks ++ k ∷ [])
-one_ticket s k e f ks h = rw f (after ks (rw e at h))
-  where
-    after : (ks : List ℕ) → Follows Tickets ks → Follows Tickets (ks ++ 84 ∷ [])
-    after ks (m, is) = (m + 1, ap (λ l. l ++ 84 ∷ []) is ∙ replicate_more m 84)
+pub one_ticket : (ks : List ℕ) → Follows Tickets ks → Follows Tickets (ks ++ 84 ∷ [])
+one_ticket ks (m, is) = (m + 1, ap (λ l. l ++ 84 ∷ []) is ∙ replicate_more m 84)
 
-pub one_ceiling : (s : Stage) (k : ℕ) → s ≡ Tickets → k ≡ 67 → (ks : List ℕ) → Follows s ks → Follows Bans (ks ++ k ∷ [])
-one_ceiling s k e f ks h = rw f (after ks (rw e at h))
-  where
-    after : (ks : List ℕ) → Follows Tickets ks → Follows Bans (ks ++ 67 ∷ [])
-    after ks (m, is) = (m, 0, ap (λ l. l ++ 67 ∷ []) is)
+pub one_ceiling : (ks : List ℕ) → Follows Tickets ks → Follows Bans (ks ++ 67 ∷ [])
+one_ceiling ks (m, is) = (m, 0, ap (λ l. l ++ 67 ∷ []) is)
 
-pub one_ban : (s : Stage) (k : ℕ) → s ≡ Bans → k ≡ 66 → (ks : List ℕ) → Follows s ks → Follows Bans (ks ++ k ∷ [])
-one_ban s k e f ks h = rw f (after ks (rw e at h))
-  where
-    after : (ks : List ℕ) → Follows Bans ks → Follows Bans (ks ++ 66 ∷ [])
-    after ks (m, n, is) =
-        (m, n + 1, ap (λ l. l ++ 66 ∷ []) is ∙ append_assoc (replicate m 84) (67 ∷ replicate n 66) (66 ∷ []) ∙ ap (λ l. replicate m 84 ++ 67 ∷ l) (replicate_more n 66))
+pub one_ban : (ks : List ℕ) → Follows Bans ks → Follows Bans (ks ++ 66 ∷ [])
+one_ban ks (m, n, is) =
+    (m, n + 1, ap (λ l. l ++ 66 ∷ []) is ∙ append_assoc (replicate m 84) (67 ∷ replicate n 66) (66 ∷ []) ∙ ap (λ l. replicate m 84 ++ 67 ∷ l) (replicate_more n 66))
 
 -- after tickets come a ticket or the ceiling
 tickets_then : (a m n k : ℕ) (more : List ℕ) → (replicate a 84 ++ k ∷ []) ++ more ≡ order m n → (k ≡ 84) ⊎ (k ≡ 67)
 tickets_then zero zero n k more e = inr (cc)
 tickets_then zero (suc m) n k more e = inl (cc)
-tickets_then (suc a) zero n k more e = let z : ◌≡◌ {A = ℕ} 84 67 = cc in absurd (omega arith)
+tickets_then (suc a) zero n k more e = absurd (omega (arith, ap (λ l. get_or l 0 0) e))
 tickets_then (suc a) (suc m) n k more e = tickets_then a m n k more (cc)
 
 -- after the ceiling come bans
@@ -47,24 +38,18 @@ all_bans (suc b) (suc n) k more e = all_bans b n k more (cc)
 
 bans_then : (a b m n k : ℕ) (more : List ℕ) → (order a b ++ k ∷ []) ++ more ≡ order m n → k ≡ 66
 bans_then zero b zero n k more e = all_bans b n k more (cc)
-bans_then zero b (suc m) n k more e = let z : ◌≡◌ {A = ℕ} 67 84 = cc in absurd (omega arith)
-bans_then (suc a) b zero n k more e = let z : ◌≡◌ {A = ℕ} 84 67 = cc in absurd (omega arith)
+bans_then zero b (suc m) n k more e = absurd (omega (arith, ap (λ l. get_or l 0 0) e))
+bans_then (suc a) b zero n k more e = absurd (omega (arith, ap (λ l. get_or l 0 0) e))
 bans_then (suc a) b (suc m) n k more e = bans_then a b m n k more (cc)
 
 -- a ban before the ceiling
-pub early : (s : Stage) (k : ℕ) → s ≡ Tickets → k ≡ 66 → (ks : List ℕ) → Follows s ks → Begins (ks ++ k ∷ []) → ⊥
-early s k e f ks h = refused (rw e at h)
-  where
-    refused : Follows Tickets ks → Begins (ks ++ k ∷ []) → ⊥
-    refused (a, is) (more, (m, n, same)) =
-        ⊎_elim (λ x. omega arith) (λ x. omega arith) (tickets_then a m n k more (ap (λ l. (l ++ k ∷ []) ++ more) (sym is) ∙ same))
+pub early : (ks : List ℕ) → Follows Tickets ks → Begins (ks ++ 66 ∷ []) → ⊥
+early ks (a, is) (more, (m, n, same)) =
+    ⊎_elim (λ x. omega arith) (λ x. omega arith) (tickets_then a m n 66 more (ap (λ l. (l ++ 66 ∷ []) ++ more) (sym is) ∙ same))
 
 -- a ticket or a second ceiling after the ceiling
-pub late : (s : Stage) (k : ℕ) → s ≡ Bans → (k ≡ 66 → ⊥) → (ks : List ℕ) → Follows s ks → Begins (ks ++ k ∷ []) → ⊥
-late s k e f ks h = refused (rw e at h)
-  where
-    refused : Follows Bans ks → Begins (ks ++ k ∷ []) → ⊥
-    refused (a, b, is) (more, (m, n, same)) = f (bans_then a b m n k more (ap (λ l. (l ++ k ∷ []) ++ more) (sym is) ∙ same))
+pub late : (k : ℕ) → (k ≡ 66 → ⊥) → (ks : List ℕ) → Follows Bans ks → Begins (ks ++ k ∷ []) → ⊥
+late k f ks (a, b, is) (more, (m, n, same)) = f (bans_then a b m n k more (ap (λ l. (l ++ k ∷ []) ++ more) (sym is) ∙ same))
 
 -- tickets alone are no whole file
 pub unended : (ks : List ℕ) → Follows Tickets ks → Whole ks → ⊥
@@ -73,5 +58,5 @@ unended ks (a, is) (m, n, e) = not_yet a m n (sym is ∙ e)
     not_yet : (a m n : ℕ) → replicate a 84 ≡ order m n → ⊥
     not_yet zero zero n e = omega (arith, ap length e)
     not_yet zero (suc m) n e = omega (arith, ap length e)
-    not_yet (suc a) zero n e = let z : ◌≡◌ {A = ℕ} 84 67 = cc in omega arith
+    not_yet (suc a) zero n e = omega (arith, ap (λ l. get_or l 0 0) e)
     not_yet (suc a) (suc m) n e = not_yet a m n (cc)

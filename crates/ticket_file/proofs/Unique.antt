@@ -1,20 +1,14 @@
 -- The bytes of records tell the records. Assumes nothing.
-use Rattle.std.proofs.Common.{◌≡◌, ℕ, ◌+◌, ◌/◌, ◌%◌, ◌⊎◌, List, [], ◌∷◌, ◌++◌, length, sym, refl, ap, ◌∙◌, inl, inr, ⊎_elim, append_assoc, arith}
+use Rattle.std.proofs.Common.{◌≡◌, ℕ, ◌+◌, ◌/◌, ◌%◌, ◌⊎◌, List, [], ◌∷◌, ◌++◌, length, take, drop, sym, refl, ap, ◌∙◌, inl, inr, ⊎_elim, append_assoc, arith}
 use Rattle.std.specs.List.{flat_map}
 use Rattle.std.proofs.lemmas.List.{append_cancel_left}
+use Rattle.std.proofs.Math.Seq.{take-append_seam, drop-append_seam}
 use Rattle.tickets.specs.declared.terms.Terms.{Terms}
 use Rattle.ticket_file.specs.Format.{Rec, ticket, ceiling, ban, bytes, header, file_of, Injective}
 
 -- equal lists, cut at the same place
 cut_alike : {X : Type 0} (a b x y : List X) → length a ≡ length b → a ++ x ≡ b ++ y → (a ≡ b) × (x ≡ y)
-cut_alike [] [] x y l e = (refl, e)
-cut_alike [] (c ∷ b) x y l e = absurd (omega arith)
-cut_alike (c ∷ a) [] x y l e = absurd (omega arith)
-cut_alike (c ∷ a) (d ∷ b) x y l e =
-    let r = cut_alike a b x y (omega arith) (cc) in
-    let f : c ≡ d = cc in
-    let g = r.0 in
-    (cc, r.1)
+cut_alike a b x y l e = (sym (take-append_seam a x) ∙ (λ i. take (l i) (e i)) ∙ take-append_seam b y, sym (drop-append_seam a x) ∙ (λ i. drop (l i) (e i)) ∙ drop-append_seam b y)
 
 two_bytes : (v w : ℕ) → v % 256 ≡ w % 256 → v / 256 ≡ w / 256 → v ≡ w
 two_bytes v w low high = omega arith
@@ -33,13 +27,13 @@ prefix_free (ticket t label) (ticket s label') x y e =
     let g = rest.0 in
     let same : t ≡ s = same_terms t s (cc) (cc) (cc) (two_bytes t.weight s.weight (cc) (cc)) in
     (cc, rest.1)
-prefix_free (ticket t label) (ceiling u) x y e = let z : ◌≡◌ {A = ℕ} 84 67 = cc in absurd (omega arith)
-prefix_free (ticket t label) (ban i s) x y e = let z : ◌≡◌ {A = ℕ} 84 66 = cc in absurd (omega arith)
-prefix_free (ceiling u) (ticket t label) x y e = let z : ◌≡◌ {A = ℕ} 67 84 = cc in absurd (omega arith)
+prefix_free (ticket t label) (ceiling u) x y e = absurd (cc)
+prefix_free (ticket t label) (ban i s) x y e = absurd (cc)
+prefix_free (ceiling u) (ticket t label) x y e = absurd (cc)
 prefix_free (ceiling u) (ceiling v) x y e = let w : u ≡ v = four_bytes u v (cc) (cc) (cc) (cc) in (cc, cc)
-prefix_free (ceiling u) (ban i s) x y e = let z : ◌≡◌ {A = ℕ} 67 66 = cc in absurd (omega arith)
-prefix_free (ban i s) (ticket t label) x y e = let z : ◌≡◌ {A = ℕ} 66 84 = cc in absurd (omega arith)
-prefix_free (ban i s) (ceiling u) x y e = let z : ◌≡◌ {A = ℕ} 66 67 = cc in absurd (omega arith)
+prefix_free (ceiling u) (ban i s) x y e = absurd (cc)
+prefix_free (ban i s) (ticket t label) x y e = absurd (cc)
+prefix_free (ban i s) (ceiling u) x y e = absurd (cc)
 prefix_free (ban i s) (ban i' s') x y e = (cc, cc)
 
 -- qs are the records rs and more; x are the bytes after rs, and y those after qs

@@ -1,24 +1,25 @@
 -- Reading a whole file. Assumes nothing.
-use Rattle.std.proofs.Common.{◌≡◌, ℕ, ◌+◌, ◌-◌, ◌<◌, ◌≤◌, ◌⊎◌, List, [], ◌∷◌, ◌++◌, map, length, Some, None, vec_items, sym, ap, ◌∙◌, subst, arith, length-append}
+use Rattle.std.proofs.Common.{◌≡◌, ℕ, ◌+◌, ◌<◌, ◌⊎◌, List, [], ◌∷◌, ◌++◌, map, length, Some, None, Ok, vec_items, sym, ap, ◌∙◌, subst, inr, arith, length-append}
 use mathlib.Core.List.{map-append}
 use Rattle.std.specs.List.{flat_map}
 use Rattle.ticket_file.specs.declared.refusal.FileRefusal.{FileRefusal}
 use Rattle.ticket_file.specs.declared.refusal.FileFault.{FileFault}
 use Rattle.ticket_file.specs.declared.record.Placed.{Placed}
+use Rattle.ticket_file.specs.declared.cursor.Cursor.{Cursor}
 use Rattle.ticket_file.specs.declared.stage.Stage.{Stage}
-use Rattle.ticket_file.specs.declared.stage.Stage.TheVariants.{Tickets}
-use Rattle.ticket_file.specs.declared.stage.Reading.{Reading}
-use Rattle.ticket_file.specs.Format.{Rec, bytes, header, file_of, Holds}
+use Rattle.ticket_file.specs.declared.reading.Reading.{Reading}
+use Rattle.ticket_file.specs.Format.{Rec, bytes, file_of, Holds}
 use Rattle.ticket_file.specs.Faults.{no_judge, Taken, Upto, Reason, form, Faulty}
-use Rattle.ticket_file.specs.Readings.{plain, spot, spots, seen, Ends, Read, Sofar}
+use Rattle.ticket_file.specs.Readings.{plain, spot, spots, seen, Ends, Read, Sofar, At, Found}
 use Rattle.ticket_file.proofs.Unique.{injective}
-use Rattle.ticket_file.proofs.Steps.{no_numbers, opened}
+use Rattle.ticket_file.proofs.Steps.{no_numbers, upto}
 use Rattle.ticket_file.proofs.Verdicts.{place_is, held_is_well, one_fault}
 
--- the records read up to p, as they are handed out
-pub record Handed (file : List ℕ) (p : ℕ) (s : Stage) (xs : List Placed) : Type 0 where
+-- the records of the file that are read, as they are handed out
+pub record Handed (file : List ℕ) (c : Cursor) (xs : List Placed) : Type 0 where
   pub rs : List Rec
-  pub sofar : Sofar file p s rs
+  pub of : c.file.now ≡ file
+  pub sofar : At c rs
   pub are : map seen xs ≡ spots 5 rs
 
 -- one record more, at its place
@@ -31,11 +32,12 @@ place_at : (file : List ℕ) (p : ℕ) (s : Stage) (rs : List Rec) → Sofar fil
 unfolding file_of
 place_at file p s rs r = omega (arith, place_is file p rs r.within r.is)
 
-pub more : (file : List ℕ) (p n : ℕ) (s t : Stage) (xs ys : List Placed) (x : Placed) (h : Handed file p s xs) → ys ≡ xs ++ x ∷ [] → Sofar file n t (h.rs ++ plain x.record ∷ []) → seen x ≡ spot p (plain x.record) → Handed file n t ys
-more file p n s t xs ys x h added next is = record {
+pub more : (file : List ℕ) (c d : Cursor) (xs ys : List Placed) (x : Placed) (h : Handed file c xs) → ys ≡ xs ++ x ∷ [] → Found c h.rs (Ok x) d → Handed file d ys
+more file c d xs ys x h added (next, same, is, lt) = record {
   rs = h.rs ++ plain x.record ∷ [];
+  of = same ∙ h.of;
   sofar = next;
-  are = ap (map seen) added ∙ map-append seen xs (x ∷ []) ∙ (λ i. h.are i ++ is i ∷ []) ∙ ap (λ q. spots 5 h.rs ++ spot q (plain x.record) ∷ []) (place_at file p s h.rs h.sofar) ∙ sym (spots_push 5 h.rs (plain x.record));
+  are = ap (map seen) added ∙ map-append seen xs (x ∷ []) ∙ (λ i. h.are i ++ is i ∷ []) ∙ ap (λ q. spots 5 h.rs ++ spot q (plain x.record) ∷ []) (place_at c.file.now c.place c.stage h.rs h.sofar) ∙ sym (spots_push 5 h.rs (plain x.record));
 }
 
 takes_all : (rs : List Rec) → Taken no_judge rs
@@ -64,10 +66,12 @@ faulted file x rs f are some b front = record {
     same : (e : FileRefusal) (p : ℕ) → (◌≡◌ {A = Reason ⊥} (form f.refusal) (form e)) × (f.place ≡ p) → f ≡ record { refusal = e; place = p }
     same e p (w, at) = let r : f.refusal ≡ e = cc in λ i. record { refusal = r i; place = at i }
 
--- no record is read yet
-pub started : (file rest : List ℕ) (p : ℕ) (xs : List Placed) → file ≡ header ++ rest → length file ≤ 32768 → p ≡ length file - length rest → xs ≡ [] → Handed file p Tickets xs
-started file rest p xs e small at none = record {
-  rs = [];
-  sofar = subst (λ q. Sofar file q Tickets []) (omega (arith, ap length e)) (opened file rest e small);
-  are = ap (map seen) none;
-}
+-- nothing is left to read
+pub ended : (file : List ℕ) (c : Cursor) (x : Reading) (h : Handed file c (vec_items x.records)) → x.fault ≡ None → Holds c.file.now h.rs → Read file x
+ended file c x h none holds = subst (λ l. Read l x) h.of (complete c.file.now x h.rs h.are none holds)
+
+-- a fault is met where the cursor stands
+pub stopped : (file : List ℕ) (c : Cursor) (x : Reading) (f : FileFault) (h : Handed file c (vec_items x.records)) → x.fault ≡ Some f → Faulty no_judge c.file.now (form f.refusal) c.place × (f.place ≡ c.place) → Read file x
+stopped file c x f h some (b, at) =
+    subst (λ l. Read l x) h.of
+    (faulted c.file.now x h.rs f h.are some (subst (Faulty no_judge c.file.now (form f.refusal)) (sym at) b) (inr (subst (λ p. Upto no_judge c.file.now p h.rs) (sym at) (upto c.file.now c.place c.stage h.rs h.sofar))))

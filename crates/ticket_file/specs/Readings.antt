@@ -9,8 +9,10 @@ use Rattle.ticket_file.specs.declared.record.Record.TheVariants.{Ticket, Ceiling
 use Rattle.ticket_file.specs.declared.record.Placed.{Placed}
 use Rattle.ticket_file.specs.declared.stage.Stage.{Stage}
 use Rattle.ticket_file.specs.declared.stage.Stage.TheVariants.{Tickets, Bans}
-use Rattle.ticket_file.specs.declared.stage.Step.{Step}
-use Rattle.ticket_file.specs.declared.stage.Reading.{Reading}
+use Rattle.ticket_file.specs.declared.cursor.Cursor.{Cursor}
+use Rattle.ticket_file.specs.declared.kind.Kind.{Kind}
+use Rattle.ticket_file.specs.declared.kind.Kind.TheVariants.{Ticket as TicketKind, Ceiling as CeilingKind, Ban as BanKind}
+use Rattle.ticket_file.specs.declared.reading.Reading.{Reading}
 use Rattle.ticket_file.specs.Format.{Rec, ticket, ceiling, ban, kind, bytes, Fit, file_of, Whole, kinds, Holds}
 use Rattle.ticket_file.specs.Faults.{no_judge, Upto, form, Faulty}
 
@@ -74,10 +76,31 @@ pub record Sofar (file : List ℕ) (p : ℕ) (s : Stage) (rs : List Rec) : Type 
   pub fit : AllByRecursion Fit rs
   pub follows : Follows s (kinds rs)
 
--- one step from the place p: the record there, or the file's fault
-abbrev pub Next : List ℕ → ℕ → List Rec → Result Step FileRefusal → Type 0
-Next file p rs (Ok x) = Sofar file x.next x.stage (rs ++ plain x.placed.record ∷ []) × (seen x.placed ≡ spot p (plain x.placed.record)) × (p < x.next)
-Next file p rs (Err e) = Faulty no_judge file (form e) p
+-- the records rs are read, and the cursor stands after them
+abbrev pub At : Cursor → List Rec → Type 0
+At c rs = Sofar c.file.now c.place c.stage rs
+
+-- the record where the cursor stood was read, and the cursor d stands after it, or there is the file's fault
+abbrev pub Found : Cursor → List Rec → Result Placed FileRefusal → Cursor → Type 0
+Found c rs (Ok x) d = At d (rs ++ plain x.record ∷ []) × (d.file.now ≡ c.file.now) × (seen x ≡ spot c.place (plain x.record)) × (c.place < d.place)
+Found c rs (Err e) d = Faulty no_judge c.file.now (form e) c.place
+
+-- one step: the next record, the end of a whole file, or its fault
+abbrev pub Next : Cursor → List Rec → Result (Option Placed) FileFault → Cursor → Type 0
+Next c rs (Ok (Some x)) d = Found c rs (Ok x) d
+Next c rs (Ok None) d = Holds c.file.now rs
+Next c rs (Err f) d = Found c rs (Err f.refusal) d × (f.place ≡ c.place)
+
+-- the letter of a kind: T, C or B
+abbrev pub letter : Kind → ℕ
+letter TicketKind = 84
+letter CeilingKind = 67
+letter BanKind = 66
+
+-- the kind with the letter l, or the refusal of a letter that no record has
+abbrev pub Names : ℕ → Result Kind FileRefusal → Type 0
+Names l (Ok k) = letter k ≡ l
+Names l (Err e) = (e ≡ UnknownKind) × ((r : Rec) → kind r ≢ l)
 
 -- the record x has the kind k and the body b, and stands at the place p
 pub record Decoded (k : ℕ) (b : List ℕ) (p : ℕ) (x : Record) : Type 0 where
@@ -85,7 +108,6 @@ pub record Decoded (k : ℕ) (b : List ℕ) (p : ℕ) (x : Record) : Type 0 wher
   pub fit : Fit (plain x)
   pub label : label_place x ≡ (spot p (plain x)).label
 
--- why no record has the kind k and a body of n bytes
-abbrev pub Undecoded : ℕ → ℕ → FileRefusal → Type 0
-Undecoded k n e =
-    ((e ≡ UnknownKind) × ((r : Rec) → kind r ≢ k)) ⊎ ((e ≡ BodyLength) × ((r : Rec) → Fit r → kind r ≡ k → length (bytes r) ≢ 2 + n) × (((r : Rec) → kind r ≢ k) → ⊥))
+-- no record has the kind k and a body of n bytes
+abbrev pub Misfits : ℕ → ℕ → FileRefusal → Type 0
+Misfits k n e = (e ≡ BodyLength) × ((r : Rec) → Fit r → kind r ≡ k → length (bytes r) ≢ 2 + n)

@@ -5,12 +5,13 @@
 
 #![tactic(auto)]
 
+mod cursor;
+mod kind;
 pub mod reading;
 pub mod record;
 pub mod refusal;
 mod stage;
 
-pub use reading::read;
+pub use reading::{Reading, read};
 pub use record::{Label, Placed, Record};
 pub use refusal::{FileFault, FileRefusal};
-pub use stage::Reading;

@@ -35,6 +35,16 @@ impl FileRefusal {
             FileRefusal::OutOfOrder => 7,
         }
     }
+
+    /// The refusal at this place.
+    pub(crate) fn at(self, place: usize) -> FileFault
+        ensures { result ≡ record { refusal = self; place = place } }
+    {
+        FileFault {
+            refusal: self,
+            place,
+        }
+    }
 }
 
 /// A refusal and its place: the first byte of what is wrong.

@@ -1,5 +1,9 @@
-use crate::record::Placed;
-use crate::refusal::FileFault;
+ghost use Rattle.std.specs.Prelude.{◌≡◌, ℕ, List, [], ◌∷◌, ◌++◌, MatchResult};
+ghost use Rattle.ticket_file.specs.Format.{Begins};
+ghost use Rattle.ticket_file.specs.Readings.{letter, Follows};
+
+use crate::kind::Kind;
+use crate::refusal::FileRefusal;
 
 /// Which records may come next.
 #[derive(Clone, Copy)]
@@ -10,17 +14,16 @@ pub(crate) enum Stage {
     Bans,
 }
 
-/// A record that was read, and where to go on.
-#[derive(Drop)]
-pub(crate) struct Step<'a> {
-    pub(crate) placed: Placed<'a>,
-    pub(crate) next: usize,
-    pub(crate) stage: Stage,
-}
-
-/// What a file has: its records, all of them or those before its fault.
-#[derive(Drop)]
-pub struct Reading<'a> {
-    pub records: Vec<Placed<'a>>,
-    pub fault: Option<FileFault>,
+impl Stage {
+    /// The stage after a record of this kind, if it may come now.
+    pub(crate) fn after(self, kind: Kind) -> Result<Stage, FileRefusal>
+        ensures { (ks : List ℕ) → Follows self ks → MatchResult result (λ s. Follows s (ks ++ letter kind ∷ [])) (λ e. (e ≡ FileRefusal.OutOfOrder) × (Begins (ks ++ letter kind ∷ []) → ⊥)) }
+    {
+        match (self, kind) {
+            (Stage::Tickets, Kind::Ticket) => Ok(Stage::Tickets),
+            (Stage::Tickets, Kind::Ceiling) => Ok(Stage::Bans),
+            (Stage::Bans, Kind::Ban) => Ok(Stage::Bans),
+            _ => Err(FileRefusal::OutOfOrder),
+        }
+    }
 }

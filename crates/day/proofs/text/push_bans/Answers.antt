@@ -1,13 +1,14 @@
-use Rattle.std.proofs.Common.{string_bytes, refl, ◌∙◌}
-use Rattle.std.proofs.lemmas.Slice.{pushed}
-use Rattle.day.proofs.Lines.{one_ban, all_bans}
+use Rattle.std.proofs.Common.{◌++◌, map, string_bytes, refl, ap, ◌∙◌}
+use Rattle.std.specs.List.{flat_map}
+use Rattle.day.specs.Contents.{banned}
+use Rattle.day.specs.Texts.{ban_line}
+use Rattle.day.proofs.Lines.{line_of_ban, one_line, no_line}
 use Rattle.day.proofs.text.push_bans.Goals as goal
 
 pub loop-ban-preserved : goal.loop-ban-preserved
 loop-ban-preserved c =
-    one_ban (string_bytes c.loop-ban.text) _ c.args.bans.now c.loop-ban.ban-index c.loop-ban.invariant (string_bytes c.push_str.new.self) c.as_str.result.now _ c.loop-ban-test.true
-    (pushed c.as_str.result.now refl c.in_ok-push_str.was c.push_str.ensures.bytes)
-    (c.as_str.ensures.value ∙ c.in_ok-line.ensures)
+    one_line (λ n bs. flat_map ban_line (map banned bs)) (λ b. ban_line (banned b)) _ _ c.args.bans.now c.loop-ban.ban-index c.loop-ban.invariant _ _ c.loop-ban-test.true
+    (c.in_ok-writeln.ensures.bytes ∙ ap (λ l. string_bytes c.loop-ban.text ++ l) (line_of_ban _)) (λ x ys. refl)
 
 pub returns : goal.returns
-returns c = all_bans (string_bytes c.loop-ban.text) _ c.args.bans.now c.loop-ban.ban-index c.loop-ban.invariant c.loop-ban-test.false
+returns c = no_line (λ n bs. flat_map ban_line (map banned bs)) (λ b. ban_line (banned b)) _ _ c.args.bans.now c.loop-ban.ban-index c.loop-ban.invariant c.loop-ban-test.false refl
