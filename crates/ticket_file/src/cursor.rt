@@ -2,6 +2,8 @@ ghost use Rattle.std.specs.Prelude.{◌≤◌, length};
 
 use crate::stage::Stage;
 
+// Not an `Iterator`, which would have to say what comes after a fault: reading ends there.
+
 /// A file, the place up to which it is read, and which records may come there.
 #[derive(Clone, Copy)]
 pub(crate) struct Cursor<'a> {
