@@ -33,6 +33,8 @@ impl Works {
         self.entries.iter().map(|entry| half(*entry)).sum()
     }
 
+    // The bound on a number hangs on the works that it is used with, so no type of a number states it: the clause stays
+    // here, in `build_pinned` and in `Guard::pin`.
     /// How a ticket ranks.
     fn rank(&self, ticket: usize) -> Rank
         requires { ticket < length self.now.entries.items }
@@ -70,6 +72,7 @@ impl Works {
     {
         let mut coming_slots = [NO_RELEASE; 24];
         let mut ready_slots = [NO_RANK; 24];
+        // What each ticket has left stands beside the entries, since those are only lent.
         let mut left = [0u8; 24];
         let mut coming = Heap::new(&mut coming_slots);
         let mut ready = Heap::new(&mut ready_slots);
