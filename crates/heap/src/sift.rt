@@ -18,15 +18,8 @@ fn higher<E: Entry>(slots: &[E], at: usize) -> Option<usize>
     requires { at < length slots.now }
     ensures { Higher (by_key (below E.Key.cmp) E.keyed) slots.now at result }
 {
-    if at == 0 {
-        return None;
-    }
-    let parent = (at - 1) / 2;
-    if is_before_at(slots, at, parent) {
-        Some(parent)
-    } else {
-        None
-    }
+    let parent = at.checked_sub(1)? / 2;
+    is_before_at(slots, at, parent).then_some(parent)
 }
 
 /// Moves the last entry up to its place in the tree of the others.
@@ -64,11 +57,7 @@ fn lower<E: Entry>(slots: &[E], at: usize) -> Option<usize>
     ensures { Lower (by_key (below E.Key.cmp) E.keyed) slots.now at result }
 {
     let child = first_child(slots, at)?;
-    if is_before_at(slots, child, at) {
-        Some(child)
-    } else {
-        None
-    }
+    is_before_at(slots, child, at).then_some(child)
 }
 
 /// Moves the first entry down to its place; with another first entry it is a tree.
