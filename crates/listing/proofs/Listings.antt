@@ -4,7 +4,7 @@ use Rattle.tickets.specs.declared.ticket.Ticket.{Ticket}
 use Rattle.tickets.specs.declared.planner_refusal.PlannerRefusal.{PlannerRefusal}
 use Rattle.tickets.specs.declared.planner_refusal.PlannerRefusal.TheVariants.{NoSuchTicket, NoSuchStart, OnlyStart, CeilingNotLower, TooManyLevels, StaleToken, TooShort, PlanLength, Overlap, CostTooHigh, Hopeless}
 use Rattle.stores.specs.Sets.{Rows}
-use Rattle.listing.specs.Placing.{Placed, Long, Writes}
+use Rattle.listing.specs.Placing.{Long, Writes}
 use Rattle.listing.specs.Texts.{listing_text}
 use Rattle.listing.specs.Listings.{Lists, OneListing, Asked, Shorter, meaning, Listed}
 use Rattle.listing.proofs.Placing.{placed_first}
@@ -39,7 +39,7 @@ module _ (ts : List Ticket) (u : ℕ) (R : Rows) (P : List ℕ → Type 0) (len 
       let (text, t, e) = long in
       (record { meets = (text, lists text t, omega arith); first = λ d l h. omega (arith, (only_short _ d h).1) }, refl)
 
-  pub listed : (old is new : List ℕ) (n : ℕ) → len ≤ length old → Writes P (λ text. Placed old 0 text is n) → new ≡ is → Listed ts u R old (Ok n) new
+  pub listed : (old is new : List ℕ) (n : ℕ) → len ≤ length old → Writes P old 0 is n → new ≡ is → Listed ts u R old (Ok n) new
   listed old is new n room w same =
       let (text, t, e) = long in
       let p = w text t in (

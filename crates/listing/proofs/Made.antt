@@ -6,7 +6,7 @@ use Rattle.std.proofs.lemmas.Fmt.{length-decimal-le}
 use Rattle.stores.specs.Sets.{Rows, Bounded}
 use Rattle.stores.proofs.Firsts.{earliest_found}
 use Rattle.listing.specs.declared.range.Range.{Range}
-use Rattle.listing.specs.Placing.{Fits}
+use Rattle.listing.specs.Placing.{HasRoom}
 use Rattle.listing.specs.Ranges.{Ranges, TableRanges}
 use Rattle.listing.specs.Texts.{range_text, ranges_text, row_line, row_lines, listing_text}
 use Rattle.listing.specs.Lines.{TextOf}
@@ -96,7 +96,7 @@ module _ (R : Rows) (b : Bounded R) where
       )
 
   -- a table has a listing, and it can be counted
-  pub text_made : (f u n : ℕ) → f < 2 ^ 64 → u < 2 ^ 32 → n ≤ 24 → Fits (TextOf f u R n) 18446744073709551615
+  pub text_made : (f u n : ℕ) → f < 2 ^ 64 → u < 2 ^ 32 → n ≤ 24 → HasRoom (TextOf f u R n) 18446744073709551615
   text_made f u n p q l =
       let (rss, t) = table_made n in
       let lines = lines_long 0 rss (λ i m. let s = ranges_long R i b 0 (get_or rss i []) (omega arith) (t.here i (omega (arith, t.places))) in omega arith) (omega (arith, t.places)) in (

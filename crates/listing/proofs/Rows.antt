@@ -3,7 +3,7 @@ use Rattle.std.proofs.Common.{◌≡◌, ℕ, ◌+◌, ◌-◌, ◌<◌, ◌≤�
 use Rattle.std.proofs.lemmas.Bool.{cases_Bool, cases_lt}
 use Rattle.stores.specs.Sets.{Rows, Bounded, Earliest, First}
 use Rattle.listing.specs.declared.range.Range.{Range}
-use Rattle.listing.specs.Placing.{Fits, Writes}
+use Rattle.listing.specs.Placing.{HasRoom, IsTaken}
 use Rattle.listing.specs.Ranges.{Leads, Ranges}
 use Rattle.listing.specs.Texts.{range_text, ranges_text}
 use Rattle.listing.specs.Lines.{RangesOf}
@@ -44,10 +44,10 @@ module _ {W : Type 0} (room : W → ℕ) (takes : W → List ℕ → W → Type 
     pub left : List Range
     pub rest : Ranges f from left
     pub fits : length (ranges_text left) ≤ room is
-    pub on : (end : W) → takes is (ranges_text left) end → Writes (RangesOf f) (λ text. takes was text end)
+    pub on : (end : W) → takes is (ranges_text left) end → IsTaken (RangesOf f) (λ text. takes was text end)
     pub low : from ≤ 257
 
-  pub going_none : (f : ℕ → Bool) (was : W) → Fits (RangesOf f) (room was) → Going f was was 0
+  pub going_none : (f : ℕ → Bool) (was : W) → HasRoom (RangesOf f) (room was) → Going f was was 0
   going_none f was (text, (rs, h, e), fits) = record {
     left = rs;
     rest = h;
@@ -73,5 +73,5 @@ module _ {W : Type 0} (room : W → ℕ) (takes : W → List ℕ → W → Type 
           low = omega arith;
         }
 
-    pub going_all : ((s : W) → takes s [] s) → First f from None → Writes (RangesOf f) (λ text. takes was text is)
+    pub going_all : ((s : W) → takes s [] s) → First f from None → IsTaken (RangesOf f) (λ text. takes was text is)
     going_all nothing none = g.on is (subst (λ x. takes is (ranges_text x) is) (sym (ranges_same f from g.left [] g.rest none)) (nothing is))

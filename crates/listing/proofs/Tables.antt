@@ -3,7 +3,7 @@ use Rattle.std.proofs.Common.{◌≡◌, ℕ, ◌+◌, ◌<◌, ◌≤◌, List,
 use Rattle.std.proofs.lemmas.List.{at_drop_more, at_drop_all}
 use Rattle.stores.specs.Sets.{Rows}
 use Rattle.listing.specs.declared.range.Range.{Range}
-use Rattle.listing.specs.Placing.{Fits, Writes}
+use Rattle.listing.specs.Placing.{HasRoom, IsTaken}
 use Rattle.listing.specs.Ranges.{TableRanges}
 use Rattle.listing.specs.Texts.{row_line, row_lines}
 use Rattle.listing.specs.Lines.{LineOf, LinesOf}
@@ -17,7 +17,7 @@ module _ {W : Type 0} (room : W → ℕ) (takes : W → List ℕ → W → Type 
     pub fits : length (row_lines i (drop i ranges)) ≤ room is
     pub on : (end : W) → takes is (row_lines i (drop i ranges)) end → takes was (row_lines 0 ranges) end
 
-  pub lining_none : (R : Rows) (n : ℕ) (was : W) → Fits (LinesOf R n) (room was) → Lining R n was was 0
+  pub lining_none : (R : Rows) (n : ℕ) (was : W) → HasRoom (LinesOf R n) (room was) → Lining R n was was 0
   lining_none R n was (text, (rss, t, e), fits) = record { ranges = rss; all = t; fits = omega (arith, ap length e); on = λ end k. k }
 
   module _ (R : Rows) (n : ℕ) (was is : W) (i : ℕ) (g : Lining R n was is i) where
@@ -28,14 +28,14 @@ module _ {W : Type 0} (room : W → ℕ) (takes : W → List ℕ → W → Type 
     next_line : i < n → LineOf (R i) i (row_line i (get_or g.ranges i []))
     next_line l = (get_or g.ranges i [], g.all.here i l, refl)
 
-    pub lining_room : i < n → Fits (LineOf (R i) i) (room is)
+    pub lining_room : i < n → HasRoom (LineOf (R i) i) (room is)
     lining_room l = (
       row_line i (get_or g.ranges i []),
       next_line l,
       omega (arith, g.fits, ap length (next_is l), length-append (row_line i (get_or g.ranges i [])) (row_lines (i + 1) (drop (i + 1) g.ranges))),
     )
 
-    pub lining_more : ((s t u : W) (a b : List ℕ) → takes s a t → takes t b u → takes s (a ++ b) u) → ((s t : W) (a : List ℕ) → takes s a t → room s ≤ length a + room t) → (new : W) → i < n → Writes (LineOf (R i) i) (λ text. takes is text new) → Lining R n was new (i + 1)
+    pub lining_more : ((s t u : W) (a b : List ℕ) → takes s a t → takes t b u → takes s (a ++ b) u) → ((s t : W) (a : List ℕ) → takes s a t → room s ≤ length a + room t) → (new : W) → i < n → IsTaken (LineOf (R i) i) (λ text. takes is text new) → Lining R n was new (i + 1)
     lining_more both rest new l w =
         let t = w _ (next_line l) in
         record {
@@ -45,7 +45,7 @@ module _ {W : Type 0} (room : W → ℕ) (takes : W → List ℕ → W → Type 
           on = λ end k. g.on end (subst (λ x. takes is x end) (sym (next_is l)) (both is new end _ _ t k));
         }
 
-    pub lining_all : ((s : W) → takes s [] s) → n ≤ i → Writes (LinesOf R n) (λ text. takes was text is)
+    pub lining_all : ((s : W) → takes s [] s) → n ≤ i → IsTaken (LinesOf R n) (λ text. takes was text is)
     lining_all nothing l text (rss, t, e) =
         let none = at_drop_all (row_lines i) g.ranges i (omega (arith, g.all.places)) in
         let all = g.on is (subst (λ x. takes is x is) (sym none) (nothing is)) in

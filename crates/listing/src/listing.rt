@@ -1,9 +1,9 @@
 //! What a listing shows.
-ghost use Rattle.std.specs.Prelude.{◌≡◌, ℕ, ◌-◌, ◌^◌, ◌<◌, ◌≤◌, List, length};
+ghost use Rattle.std.specs.Prelude.{◌≡◌, ℕ, ◌^◌, ◌<◌, ◌≤◌, List, length};
 ghost use Rattle.tickets.specs.Collections.{posted};
 ghost use Rattle.listing.specs.Lines.{TextOf};
 ghost use Rattle.listing.specs.Listings.{Lists};
-ghost use Rattle.listing.specs.Placing.{Placed, Long, Fits, Writes};
+ghost use Rattle.listing.specs.Placing.{Long, Fits, Writes, HasRoom, IsTaken};
 
 use crate::counter::Counter;
 use crate::numbers::write_line;
@@ -39,8 +39,8 @@ impl<'a, S: Store> Listing<'a, S> {
 
     /// Writes the text.
     fn write<W: Sink>(&self, out: &mut W)
-        requires { Fits (TextOf self.now.floor self.now.ceiling (S.rows self.now.store.now) self.now.count) (W.room out.old) }
-        ensures { Writes (TextOf self.now.floor self.now.ceiling (S.rows self.now.store.now) self.now.count) (λ text. W.takes out.old text out.new) }
+        requires { HasRoom (TextOf self.now.floor self.now.ceiling (S.rows self.now.store.now) self.now.count) (W.room out.old) }
+        ensures { IsTaken (TextOf self.now.floor self.now.ceiling (S.rows self.now.store.now) self.now.count) (λ text. W.takes out.old text out.new) }
     {
         write_line(out, b"floor ", self.floor);
         write_line(out, b"ceiling ", self.ceiling);
@@ -58,9 +58,9 @@ impl<'a, S: Store> Listing<'a, S> {
 
     /// Writes the text into a buffer.
     pub(crate) fn fill(&self, page: &mut Page<'_>)
-        requires { Fits (TextOf self.now.floor self.now.ceiling (S.rows self.now.store.now) self.now.count) (length page.old.buffer.now - page.old.end) }
+        requires { Fits (TextOf self.now.floor self.now.ceiling (S.rows self.now.store.now) self.now.count) page.old.end (length page.old.buffer.now) }
         ensures lender { page.new.buffer.ghost_name ≡ page.old.buffer.ghost_name }
-        ensures placed { Writes (TextOf self.now.floor self.now.ceiling (S.rows self.now.store.now) self.now.count) (λ text. Placed page.old.buffer.now page.old.end text page.new.buffer.now page.new.end) }
+        ensures placed { Writes (TextOf self.now.floor self.now.ceiling (S.rows self.now.store.now) self.now.count) page.old.buffer.now page.old.end page.new.buffer.now page.new.end }
     {
         self.write(page);
     }

@@ -1,7 +1,7 @@
 //! The lines of the tickets.
 ghost use Rattle.std.specs.Prelude.{◌≤◌};
 ghost use Rattle.listing.specs.Lines.{RangesOf, LineOf, LinesOf};
-ghost use Rattle.listing.specs.Placing.{Fits, Writes};
+ghost use Rattle.listing.specs.Placing.{HasRoom, IsTaken};
 ghost use Rattle.listing.specs.Ranges.{NextRange};
 
 use crate::numbers::{write_number, write_range};
@@ -23,8 +23,8 @@ fn next_range<S: Store>(store: &S, row: usize, from: usize) -> Option<Range>
 
 /// Writes the ranges of a row.
 fn write_ranges<W: Sink, S: Store>(out: &mut W, store: &S, row: usize)
-    requires { Fits (RangesOf (S.rows store.now row)) (W.room out.old) }
-    ensures { Writes (RangesOf (S.rows store.now row)) (λ text. W.takes out.old text out.new) }
+    requires { HasRoom (RangesOf (S.rows store.now row)) (W.room out.old) }
+    ensures { IsTaken (RangesOf (S.rows store.now row)) (λ text. W.takes out.old text out.new) }
 {
     let mut from = 0;
     while let Some(range) = next_range(store, row, from) {
@@ -35,8 +35,8 @@ fn write_ranges<W: Sink, S: Store>(out: &mut W, store: &S, row: usize)
 
 /// Writes the line of a ticket.
 fn write_row<W: Sink, S: Store>(out: &mut W, store: &S, row: usize)
-    requires { Fits (LineOf (S.rows store.now row) row) (W.room out.old) }
-    ensures { Writes (LineOf (S.rows store.now row) row) (λ text. W.takes out.old text out.new) }
+    requires { HasRoom (LineOf (S.rows store.now row) row) (W.room out.old) }
+    ensures { IsTaken (LineOf (S.rows store.now row) row) (λ text. W.takes out.old text out.new) }
 {
     write_number(out, row);
     write_ranges(out, store, row);
@@ -45,8 +45,8 @@ fn write_row<W: Sink, S: Store>(out: &mut W, store: &S, row: usize)
 
 /// Writes the lines of the first `count` tickets.
 pub(crate) fn write_rows<W: Sink, S: Store>(out: &mut W, store: &S, count: usize)
-    requires { Fits (LinesOf (S.rows store.now) count) (W.room out.old) }
-    ensures { Writes (LinesOf (S.rows store.now) count) (λ text. W.takes out.old text out.new) }
+    requires { HasRoom (LinesOf (S.rows store.now) count) (W.room out.old) }
+    ensures { IsTaken (LinesOf (S.rows store.now) count) (λ text. W.takes out.old text out.new) }
 {
     for row in 0..count {
         write_row(out, store, row);
