@@ -25,11 +25,6 @@ levels_many R levels = marks_length R (reverse levels) ∙ length-reverse levels
 pub newest_last : (rest : List BitStore) (x : BitStore) → reverse (rest ++ x ∷ []) ≡ x ∷ reverse rest
 newest_last rest x = reverse-append rest (x ∷ [])
 
--- what was taken out is noted in the newest set
-pub marks_noted :
-    (R G : Rows) (x y : BitStore) (sets : List BitStore) → bit_rows y ≡ union (bit_rows x) G → at_marks R (y ∷ sets) ≡ at_marks (union R G) (x ∷ sets)
-marks_noted R G x y sets noted = ap (λ (A : Rows). A ∷ at_marks A sets) (ap (union R) noted ∙ fun_ext (λ i. fun_ext (λ t. grind (arith, nat_tests))))
-
 -- a level is opened, with an empty set
 pub marks_opened : (R : Rows) (levels : List BitStore) (x : BitStore) → bit_rows x ≡ no_starts → at_marks R (reverse (levels ++ x ∷ [])) ≡ R ∷ at_marks R (reverse levels)
 marks_opened R levels x none =

@@ -1,5 +1,5 @@
 -- A row that is walked, and loses what is not kept. Assumes nothing.
-use Rattle.std.proofs.Common.{◌≡◌, ℕ, ◌+◌, ◌<◌, ◌≤◌, Bool, true, false, eqb, ◌⊎◌, sym, refl, ap, ◌∙◌, subst, inl, inr, ⊎_elim, arith}
+use Rattle.std.proofs.Common.{◌≡◌, ℕ, ◌+◌, ◌<◌, ◌≤◌, Bool, true, false, eqb, ◌⊎◌, sym, ap, ◌∙◌, subst, inl, inr, ⊎_elim, arith}
 use mathlib.Core.Path.{fun_ext}
 use Rattle.std.proofs.lemmas.Bool.{cases_Bool, cases_eq, cases_lt, both_ways}
 use Rattle.std.proofs.lemmas.Bool.Decides.{nat_tests}
@@ -8,7 +8,6 @@ use Rattle.stores.proofs.Moves.{without_held, without_other, without_named}
 use Rattle.stores.proofs.Firsts.{earliest_least}
 use Rattle.runs.specs.Tables.{Within}
 use Rattle.runs.specs.Orders.{fixed}
-use Rattle.planner.specs.Sets.{without_row}
 use Rattle.planner.specs.Cuttings.{Retained}
 
 module _ (keep : ℕ → Bool → Type 0) (row : ℕ) where
@@ -18,9 +17,6 @@ module _ (keep : ℕ → Bool → Type 0) (row : ℕ) where
     pub others : (i t : ℕ) → (i ≡ row → ⊥) → Q i t ≡ R i t
     pub kept : (t : ℕ) → t < next → Q row t ≡ true → keep t true
     pub cut : (t : ℕ) → R row t ≡ true → Q row t ≡ false → keep t false
-
-  pub walked_none : (R : Rows) → Walked R R 0
-  walked_none R = record { less = λ i t on. on; others = λ i t _. refl; kept = λ t l _. absurd (omega arith); cut = λ t on off. absurd (both_ways (R row t) off on) }
 
   -- a start of the row that comes before v + 1 is v, or comes before `next`
   earlier : (f : ℕ → Bool) (next v t : ℕ) → Earliest f next v → t < v + 1 → f t ≡ true → (t ≡ v) ⊎ (t < next)
@@ -58,14 +54,6 @@ module _ (keep : ℕ → Bool → Type 0) (row : ℕ) where
       back : (i t : ℕ) → N i t ≡ true → Q i t ≡ true
       back i t on = without_held Q row v i t (ap (λ (T : Rows). T i t) (sym n) ∙ on)
 
-  pub walked_done : (R Q : Rows) (next : ℕ) → ((t : ℕ) → next ≤ t → Q row t ≡ false) → Walked R Q next → Retained keep row R Q
-  walked_done R Q next none so_far = record {
-    less = so_far.less;
-    others = so_far.others;
-    kept = λ t on. ⊎_elim (λ (l : t < next). so_far.kept t l on) (λ (l : next ≤ t). absurd (both_ways (Q row t) (none t l) on)) (cases_lt t next);
-    cut = so_far.cut;
-  }
-
 -- what the answers to `keep` say of a start in range
 pub retained_as :
     (keep says : ℕ → Bool → Type 0) (row : ℕ) (R Q : Rows) → Bounded R → ((t : ℕ) (b : Bool) → t < 256 → keep t b → says t b) → Retained keep row R Q →
@@ -76,14 +64,6 @@ retained_as keep says row R Q b tells f = record {
   kept = λ t on. tells t true (b row t (f.less row t on)).1 (f.kept t on);
   cut = λ t on off. tells t false (b row t on).1 (f.cut t on off);
 }
-
--- none is kept
-pub retained_none : (R Q : Rows) (row : ℕ) → Retained (λ t b. b ≡ false) row R Q → Q ≡ without_row R row
-retained_none R Q row f = fun_ext (λ i. fun_ext (λ t.
-    ⊎_elim
-    (λ (same : i ≡ row). let row_is : Q i t ≡ Q row t = ap (λ j. Q j t) same in grind (arith, nat_tests, cases_Bool (Q row t), f.kept t))
-    (λ (other : i ≡ row → ⊥). let is = f.others i t other in grind (arith, nat_tests))
-    (cases_eq i row)))
 
 -- one is kept
 pub retained_fixed : (R Q : Rows) (row stay : ℕ) → Retained (λ t b. b ≡ eqb t stay) row R Q → Q ≡ fixed R row stay

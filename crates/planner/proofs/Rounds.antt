@@ -60,15 +60,6 @@ module _ (w : Setting) (ok : Laws w) (U : ℕ) where
     pub supported : (i t : ℕ) → i < row → Q i t ≡ true → w.supports r i t U
     pub shifted : moved ≡ true → (i : ℕ) × (i < w.tickets) × (Q i (r i) ≡ false)
 
-  pub round_none : (r : ℕ → ℕ) (R G : Rows) → Round r R G R G 0 false
-  round_none r R G = record {
-    trim = trim_none R G;
-    untouched = λ i t _. refl;
-    still = λ _ i l. absurd (omega arith);
-    supported = λ i t l. absurd (omega arith);
-    shifted = λ e. absurd (both_ways _ refl e);
-  }
-
   -- the next row is trimmed
   module _ (r : ℕ → ℕ) (R G Q H N K : Rows) (row : ℕ) (moved : Bool) (l : row < w.tickets) (rel : Releases w R r) where
     early_now : Trim w U R G Q H → Early w Q r

@@ -1,10 +1,9 @@
 -- Walking the starts of a store, from place to place. Assumes nothing.
-use Rattle.std.proofs.Common.{◌≡◌, ℕ, ◌+◌, ◌*◌, ◌<◌, ◌≤◌, true, false, ◌&&◌, ltb, sym, refl, ap, ◌∙◌, ⊎_elim, arith}
+use Rattle.std.proofs.Common.{◌≡◌, ℕ, ◌+◌, ◌*◌, ◌<◌, ◌≤◌, true, false, ◌&&◌, ltb, ap, ◌∙◌, ⊎_elim, arith}
 use mathlib.Core.Path.{fun_ext}
 use Rattle.std.proofs.lemmas.Bool.{cases_Bool, cases_eq, cases_lt, both_ways}
 use Rattle.std.proofs.lemmas.Bool.Decides.{nat_tests}
-use Rattle.stores.specs.Sets.{Rows, Bounded, with, Earliest}
-use Rattle.stores.proofs.Firsts.{earliest_least}
+use Rattle.stores.specs.Sets.{Rows, Bounded, with}
 use Rattle.planner.specs.Sets.{union}
 use Rattle.planner.specs.Starts.{FirstAt}
 
@@ -15,50 +14,6 @@ pub record Passed (R : Rows) (from row next : ℕ) : Type 0 where
   pub within : next ≤ 256
   pub reached : from ≤ 256 * row + next
   pub later : (i t : ℕ) → R i t ≡ true → from ≤ 256 * i + t → 256 * row + next ≤ 256 * i + t
-
-pub passed_none : (R : Rows) (row next : ℕ) → next ≤ 256 → Passed R (256 * row + next) row next
-passed_none R row next l = record { within = l; reached = omega arith; later = λ i t _ m. m }
-
-pub passed_found : (R : Rows) (from row next v : ℕ) → Bounded R → Passed R from row next → Earliest (R row) next v → FirstAt R from (256 * row + (v + 1)) row v
-passed_found R from row next v b so_far e =
-    let (_, in_start) = b row v e.held in
-    let on = e.reached in
-    let at = so_far.reached in
-    record {
-      held = e.held;
-      reached = omega arith;
-      gap = λ j u held m.
-          let (_, l) = b j u held in
-          let later = so_far.later j u held m in
-          ⊎_elim
-          (λ (same : j ≡ row). let le = earliest_least (R row) next v u e (omega arith) (ap (λ k. R k u) (sym same) ∙ held) in omega arith)
-          (λ (other : j ≡ row → ⊥). omega (arith, other))
-          (cases_eq j row);
-      passed = refl;
-    }
-
-pub passed_row : (R : Rows) (from row next : ℕ) → Bounded R → Passed R from row next → ((t : ℕ) → next ≤ t → R row t ≡ false) → Passed R from (row + 1) 0
-passed_row R from row next b so_far none =
-    let at = so_far.reached in
-    let within = so_far.within in
-    record {
-      within = omega arith;
-      reached = omega arith;
-      later = λ i t held m.
-          let (_, l) = b i t held in
-          let later = so_far.later i t held m in
-          ⊎_elim
-          (λ (same : i ≡ row). absurd (both_ways (R row t) (none t (omega arith)) (ap (λ k. R k t) (sym same) ∙ held)))
-          (λ (other : i ≡ row → ⊥). omega (arith, other))
-          (cases_eq i row);
-    }
-
-pub passed_all : (R : Rows) (from row next : ℕ) → Bounded R → 24 ≤ row → Passed R from row next → (i t : ℕ) → from ≤ 256 * i + t → R i t ≡ false
-passed_all R from row next b l so_far i t m =
-    ⊎_elim
-    (λ (held : R i t ≡ true). let (in_row, in_start) = b i t held in let later = so_far.later i t held m in absurd (omega arith))
-    (λ (off : R i t ≡ false). off)
-    (cases_Bool (R i t))
 
 -- ---- what was walked so far
 

@@ -13,9 +13,6 @@ use Rattle.planner.specs.Sets.{union, without_row, range_of, Out}
 abbrev pub filled : ℕ → ℕ → ℕ → Rows
 filled row first next i t = eqb i row && (leb first t && ltb t next)
 
-pub filled_none : (R : Rows) (row first : ℕ) → R ≡ union R (filled row first first)
-filled_none R row first = fun_ext (λ i. fun_ext (λ t. grind (arith, nat_tests)))
-
 pub filled_more : (R Q N : Rows) (row first next : ℕ) → row < 24 → next < 256 → first ≤ next → Q ≡ union R (filled row first next) → N ≡ with Q row next → N ≡ union R (filled row first (next + 1))
 unfolding with
 filled_more R Q N row first next l m le q n = n ∙ fun_ext (λ i. fun_ext (λ t.
@@ -28,9 +25,6 @@ filled_all R row first last = fun_ext (λ i. fun_ext (λ t. grind (arith, nat_te
 -- the rows below n are those of P, the others those of R
 abbrev pub mixed : Rows → Rows → ℕ → Rows
 mixed P R n i t = (ltb i n && P i t) || (not (ltb i n) && R i t)
-
-pub mixed_none : (P R : Rows) → R ≡ mixed P R 0
-mixed_none P R = fun_ext (λ i. fun_ext (λ t. grind (arith, nat_tests)))
 
 -- the next row is emptied, and filled as in P
 pub mixed_more :
