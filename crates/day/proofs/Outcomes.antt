@@ -75,7 +75,7 @@ module _ (file : List ℕ) (x : Reading) (read : Read file x) (xs : List Placed)
   -- the first record that is refused is the fault
   pub contents_fault : (k : ℕ) (d : Placed) (g h : Gathered) (e : GatherError) → k < length xs → Sofar xs k g → Took g (plain (get_or xs k d).record) (get_or xs k d).place (Err e) h → Outcome file (Err e)
   unfolding file_of
-  contents_fault k d g h OutOfMemory lt sofar told = tt
+  contents_fault k d g h (OutOfMemory e) lt sofar told = tt
   contents_fault k d g h (Refused f) lt (taken, is) ((e, answers, at), left) =
       let r = plain (get_or xs k d).record in
       let before = take k (recs xs) in

@@ -22,4 +22,4 @@ gathered c = record { held = held c.collection; bans = map banned (vec_items c.b
 abbrev pub Took : Gathered → Rec → ℕ → Result Unit GatherError → Gathered → Type 0
 Took g r p (Ok _) h = Clear (judging g) r × (h ≡ with_record g r)
 Took g r p (Err (Refused f)) h = ((e : TicketRefusal) × Answers (judging g) r e × (f ≡ record { refusal = Ticket e; place = p })) × (h ≡ g)
-Took g r p (Err OutOfMemory) h = h ≡ g
+Took g r p (Err (OutOfMemory _)) h = h ≡ g

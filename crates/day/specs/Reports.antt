@@ -21,7 +21,7 @@ pub record Accepted (file : List ℕ) (rs : List Rec) : Type 0 where
 abbrev pub Outcome : List ℕ → Result Contents GatherError → Type 0
 Outcome file (Ok c) = (rs : List Rec) × Accepted file rs × (gathered c ≡ gather nothing rs)
 Outcome file (Err (Refused f)) = Faulty posting file (reason f.refusal) f.place
-Outcome file (Err OutOfMemory) = ⊤
+Outcome file (Err (OutOfMemory _)) = ⊤
 
 -- The report on a file. Each file is accepted or faulty. The report is a listing of what the records come to
 -- exactly when the file is accepted with them, and a fault's line exactly when that is the file's fault.

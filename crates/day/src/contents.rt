@@ -1,6 +1,7 @@
 ghost use Rattle.std.specs.Prelude.{◌≡◌, Some};
 ghost use Rattle.ticket_file.specs.Readings.{plain};
 ghost use Rattle.day.specs.declared.contents.GatherError.TheVariants.{Refused, OutOfMemory};
+ghost use Rattle.std.specs.declared.alloc.AllocError.{AllocError};
 ghost use Rattle.day.specs.Judging.{nothing};
 ghost use Rattle.day.specs.Contents.{banned, gathered, Took};
 ghost use Rattle.day.specs.Reports.{Outcome};
@@ -17,7 +18,7 @@ use tickets::{Collection, TicketRefusal};
 pub(crate) enum GatherError {
     /// The file has a fault.
     Refused(Fault),
-    OutOfMemory,
+    OutOfMemory(AllocError),
 }
 
 impl From<Fault> for GatherError {
@@ -29,18 +30,18 @@ impl From<Fault> for GatherError {
 }
 
 impl From<AllocError> for GatherError {
-    ghost from_gives = { λ _ e. e ≡ OutOfMemory };
+    ghost from_gives = { λ e g. g ≡ OutOfMemory e };
 
-    fn from(_error: AllocError) -> GatherError {
-        GatherError::OutOfMemory
+    fn from(error: AllocError) -> GatherError {
+        GatherError::OutOfMemory(error)
     }
 }
 
 impl<T: Drop> From<AllocFailed<T>> for GatherError {
-    ghost from_gives = { λ _ e. e ≡ OutOfMemory };
+    ghost from_gives = { λ _ g. (e : AllocError) × (g ≡ OutOfMemory e) };
 
-    fn from(_failed: AllocFailed<T>) -> GatherError {
-        GatherError::OutOfMemory
+    fn from(failed: AllocFailed<T>) -> GatherError {
+        GatherError::OutOfMemory(failed.into())
     }
 }
 

@@ -26,6 +26,6 @@ pub fn report_on(heap: Global, file: &[u8]) -> Result<Report, AllocError>
             text: format!(in heap; "{fault}\n")?,
             fault: Some(fault),
         }),
-        Err(GatherError::OutOfMemory) => Err(AllocError),
+        Err(GatherError::OutOfMemory(error)) => Err(error),
     }
 }
