@@ -21,7 +21,7 @@ abbrev rank_equal : Rank → Rank → Bool
 rank_equal x y = beq x.pinned y.pinned && ((x.weight == y.weight) && ((x.length == y.length) && (x.number == y.number)))
 
 -- an order made of two others
-then_lex : {X : Type 0} (R S : X → X → Ordering) → IsTotalOrder R → (x y : X) → below (then_cmp R S) x y ≡ lex (below R) (below S) x y
+pub then_lex : {X : Type 0} (R S : X → X → Ordering) → IsTotalOrder R → (x y : X) → below (then_cmp R S) x y ≡ lex (below R) (below S) x y
 then_lex R S total x y = at (R x y) (R y x) (S x y) (total.antisymm y x)
   where
     at : (r t s : Ordering) → t ≡ ordering_reverse r → is_lt (ordering_then r s) ≡ is_lt r || (not (is_lt t) && is_lt s)
@@ -46,7 +46,7 @@ lesser a b = at (nat_lt a b) (a == b)
     at false false = refl
 
 -- releases
-release_total : IsTotalOrder release_cmp
+pub release_total : IsTotalOrder release_cmp
 release_total = then_total (on_total (λ (x : Release). x.slot) nat_cmp_total) (on_total (λ (x : Release). x.number) nat_cmp_total)
 
 pub sooner_is : below release_cmp ≡ sooner
@@ -72,7 +72,7 @@ over_all x y z = scaled (y.weight * x.length) (x.weight * y.length) z.length z.p
 swapped : (x y z : Rank) → weighed x y z ≡ weighed x z y
 swapped x y z = mul_right_comm x.weight y.length z.length
 
-density_total : IsTotalOrder density_cmp
+pub density_total : IsTotalOrder density_cmp
 density_total = record {
   antisymm = λ x y. nat_cmp_total.antisymm (y.weight * x.length) (x.weight * y.length);
   trans = λ x y z h k.
