@@ -1,6 +1,6 @@
 -- Each table has a listing, and it is short. Assumes nothing.
 use Rattle.std.proofs.Common.{◌≡◌, ◌⊎◌, ℕ, zero, suc, ◌+◌, ◌-◌, ◌*◌, ◌^◌, ◌<◌, ◌≤◌, true, false, not, List, [], ◌∷◌, ◌++◌, length, get_or, decimal, sym, refl, ap, ◌∙◌, subst, inl, inr, ⊎_elim, arith, length-append}
-use Rattle.std.proofs.lemmas.Bool.{cases_Bool, cases_lt, not-false, not-true}
+use Rattle.std.proofs.lemmas.Bool.{cases_Bool, cases_eq, cases_lt, not-false, not-true}
 use Rattle.std.proofs.lemmas.List.{length_push, get_or_push, get_or_append_left}
 use Rattle.std.proofs.lemmas.Fmt.{length-decimal-le}
 use Rattle.stores.specs.Sets.{Rows, Bounded}
@@ -22,7 +22,7 @@ module _ (R : Rows) (i : ℕ) (b : Bounded R) where
       (λ (on : R i from ≡ true). inr (from, omega arith, on))
       (λ (off : R i from ≡ false).
       ⊎_elim
-      (λ (none : (t : ℕ) → suc from ≤ t → R i t ≡ false). inl (λ t l. ⊎_elim (λ (m : from < t). none t (omega arith)) (λ (m : t ≤ from). let e : t ≡ from = omega arith in ap (R i) e ∙ off) (cases_lt from t)))
+      (λ (none : (t : ℕ) → suc from ≤ t → R i t ≡ false). inl (λ t l. grind (arith, cases_eq t from, off, none t)))
       (λ (some : (t : ℕ) × (suc from ≤ t) × (R i t ≡ true)). inr (some.0, (let l = some.1 in omega arith), some.2))
       (some_start n (suc from) (omega arith)))
       (cases_Bool (R i from))

@@ -1,6 +1,6 @@
 -- Going through the ranges of a row, to write them. Assumes nothing.
-use Rattle.std.proofs.Common.{◌≡◌, ℕ, ◌+◌, ◌-◌, ◌<◌, ◌≤◌, Bool, true, false, List, [], ◌∷◌, ◌++◌, length, Some, None, Option, MatchOption, unwrap_or, sym, ap, ◌∙◌, subst, ⊎_elim, arith, length-append}
-use Rattle.std.proofs.lemmas.Bool.{cases_Bool, cases_lt}
+use Rattle.std.proofs.Common.{◌≡◌, ℕ, ◌+◌, ◌-◌, ◌<◌, ◌≤◌, Bool, true, false, List, [], ◌∷◌, ◌++◌, length, Some, None, Option, MatchOption, unwrap_or, sym, ap, ◌∙◌, subst, arith, length-append}
+use Rattle.std.proofs.lemmas.Bool.{cases_Bool, cases_eq}
 use Rattle.stores.specs.Sets.{Rows, Bounded, Earliest, First}
 use Rattle.listing.specs.declared.range.Range.{Range}
 use Rattle.listing.specs.Placing.{HasRoom, IsTaken}
@@ -15,14 +15,14 @@ leads_low R i from r b p = (b i r.last (p.unbroken r.last p.rises (omega arith))
 
 -- nothing is in a row from 256 on
 pub high_out : (R : Rows) (i : ℕ) → Bounded R → (t : ℕ) → 256 ≤ t → R i t ≡ false
-high_out R i b t h = ⊎_elim (λ (e : R i t ≡ true). absurd (let l = (b i t e).1 in omega arith)) (λ (e : R i t ≡ false). e) (cases_Bool (R i t))
+high_out R i b t h = grind (arith, cases_Bool (R i t), b i t)
 
 -- a range ends before the first later start that is out of the row
 pub range_to : (f : ℕ → Bool) (from first n : ℕ) → Earliest f from first → first < n → f n ≡ false → ((t : ℕ) → first + 1 ≤ t → t < n → f t ≡ true) → Leads f from (record { first = first; last = n - 1 })
 range_to f from first n e l off on = record {
   begins = e;
   rises = omega arith;
-  unbroken = λ t p q. ⊎_elim (λ (m : first < t). on t (omega arith) (omega arith)) (λ (m : t ≤ first). let s : t ≡ first = omega arith in ap f s ∙ e.held) (cases_lt first t);
+  unbroken = λ t p q. grind (arith, cases_eq t first, e.held, on t);
   ends = let s : n - 1 + 1 ≡ n = omega arith in ap f s ∙ off;
 }
 

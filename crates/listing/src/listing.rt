@@ -56,7 +56,7 @@ impl<'a, S: Store> Listing<'a, S> {
         counter.count
     }
 
-    /// Writes the text into a buffer.
+    /// Writes the text into a buffer, which stays the one that was lent.
     pub(crate) fn fill(&self, page: &mut Page<'_>)
         requires { Fits (TextOf self.now.floor self.now.ceiling (S.rows self.now.store.now) self.now.count) page.old.end (length page.old.buffer.now) }
         ensures lender { page.new.buffer.ghost_name ≡ page.old.buffer.ghost_name }

@@ -26,6 +26,8 @@ fn write_ranges<W: Sink, S: Store>(out: &mut W, store: &S, row: usize)
     requires { HasRoom (RangesOf (S.rows store.now row)) (W.room out.old) }
     ensures { IsTaken (RangesOf (S.rows store.now row)) (λ text. W.takes out.old text out.new) }
 {
+    // No iterator of ranges: this is the one place that goes through them, and it would take a struct, an impl and
+    // its ghost members for these four lines.
     let mut from = 0;
     while let Some(range) = next_range(store, row, from) {
         write_range(out, range);
