@@ -1,5 +1,5 @@
 -- What comes before what is an order, by the laws of `cmp`. Assumes nothing.
-use Rattle.std.proofs.Common.{◌≡◌, true, false, true≢false, sym, refl, ap, ◌∙◌, Ordering, Less, Equal, Greater}
+use Rattle.std.proofs.Common.{◌≡◌, ℕ, nat_lt, arith, ltb-true, ltb-false, le-ltb, true, false, true≢false, sym, refl, ap, ◌∙◌, Ordering, Less, Equal, Greater}
 use Rattle.std.specs.Cmp.{IsTotalOrder}
 use Rattle.std.specs.Ordering.{is_lt, is_gt, ordering_reverse}
 use Rattle.std.proofs.lemmas.Cmp.{upto}
@@ -35,3 +35,13 @@ module _ {K : Type 0} (cmp : K → K → Ordering) (total : IsTotalOrder cmp) wh
       level Less h k = absurd (true≢false h)
       level Equal h k = refl
       level Greater h k = absurd (true≢false k)
+
+-- of two numbers the lower comes first, and that is an order
+pub lower_asymmetric : (a b : ℕ) → nat_lt a b ≡ true → nat_lt b a ≡ false
+lower_asymmetric a b h = le-ltb b a (omega (arith, ltb-true a b h))
+
+pub lower_chains : (a b c : ℕ) → nat_lt b a ≡ false → nat_lt c b ≡ false → nat_lt c a ≡ false
+lower_chains a b c h k = le-ltb c a (omega (arith, ltb-false b a h, ltb-false c b k))
+
+pub lower_apart : (a b : ℕ) → nat_lt a b ≡ false → nat_lt b a ≡ false → a ≡ b
+lower_apart a b h k = omega (arith, ltb-false a b h, ltb-false b a k)

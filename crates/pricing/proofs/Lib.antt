@@ -1,4 +1,5 @@
 -- In reading order. The orders of the waiting lines; working entries; the sizes of terms.
+pub mod Lexical
 pub mod Entries
 pub mod Amounts
 -- What is found in the waiting lines.
