@@ -5,19 +5,19 @@ ghost use Rattle.ticket_file.specs.Faults.{form, fault, no_judge};
 #[derive(Clone, Copy, Debug, PartialEq)]
 pub enum FileRefusal {
     /// More than 32,768 bytes.
-    TooLong,
+    TooLong = 1,
     /// Fewer than five bytes, or other letters than RPQ.
-    NotATicketFile,
+    NotATicketFile = 2,
     /// Another version than 1.
-    OtherVersion,
+    OtherVersion = 3,
     /// A record that passes the end.
-    PastEnd,
+    PastEnd = 4,
     /// A record that is neither a ticket, nor a ceiling, nor a ban.
-    UnknownKind,
+    UnknownKind = 5,
     /// A body longer or shorter than its kind has.
-    BodyLength,
+    BodyLength = 6,
     /// A record out of its order, or no ceiling.
-    OutOfOrder,
+    OutOfOrder = 7,
 }
 
 impl FileRefusal {
@@ -25,15 +25,7 @@ impl FileRefusal {
     pub fn number(self) -> u8
         ensures { result ≡ (fault no_judge (form self)).number }
     {
-        match self {
-            FileRefusal::TooLong => 1,
-            FileRefusal::NotATicketFile => 2,
-            FileRefusal::OtherVersion => 3,
-            FileRefusal::PastEnd => 4,
-            FileRefusal::UnknownKind => 5,
-            FileRefusal::BodyLength => 6,
-            FileRefusal::OutOfOrder => 7,
-        }
+        self as u8
     }
 
     /// The refusal at this place.

@@ -5,27 +5,27 @@ ghost use Rattle.tickets.specs.Planner.{number_of};
 #[derive(Clone, Copy, Debug, PartialEq)]
 pub enum PlannerRefusal {
     /// No ticket has this number.
-    NoSuchTicket,
+    NoSuchTicket = 11,
     /// A start that is not in its row, or above 255.
-    NoSuchStart,
+    NoSuchStart = 12,
     /// The start is the only one in its row.
-    OnlyStart,
+    OnlyStart = 13,
     /// The new ceiling is not lower than the present one.
-    CeilingNotLower,
+    CeilingNotLower = 14,
     /// There are 32 open levels already.
-    TooManyLevels,
+    TooManyLevels = 15,
     /// The token's level is not the newest open one, or its stamp is another planner's.
-    StaleToken,
+    StaleToken = 16,
     /// The memory that was lent is too short.
-    TooShort,
+    TooShort = 17,
     /// A plan has more starts or fewer than there are tickets.
-    PlanLength,
+    PlanLength = 18,
     /// Two tickets of a plan overlap.
-    Overlap,
+    Overlap = 19,
     /// A plan costs more than the ceiling.
-    CostTooHigh,
+    CostTooHigh = 20,
     /// There is no self-supporting table.
-    Hopeless,
+    Hopeless = 21,
 }
 
 impl PlannerRefusal {
@@ -33,18 +33,6 @@ impl PlannerRefusal {
     pub fn number(self) -> u8
         ensures { result ≡ number_of self }
     {
-        match self {
-            PlannerRefusal::NoSuchTicket => 11,
-            PlannerRefusal::NoSuchStart => 12,
-            PlannerRefusal::OnlyStart => 13,
-            PlannerRefusal::CeilingNotLower => 14,
-            PlannerRefusal::TooManyLevels => 15,
-            PlannerRefusal::StaleToken => 16,
-            PlannerRefusal::TooShort => 17,
-            PlannerRefusal::PlanLength => 18,
-            PlannerRefusal::Overlap => 19,
-            PlannerRefusal::CostTooHigh => 20,
-            PlannerRefusal::Hopeless => 21,
-        }
+        self as u8
     }
 }

@@ -5,11 +5,11 @@ ghost use Rattle.tickets.specs.Collections.{meaning};
 #[derive(Clone, Copy, Debug, PartialEq)]
 pub enum TicketRefusal {
     /// A ticket's numbers are outside the limits.
-    OutsideLimits,
+    OutsideLimits = 8,
     /// There are 24 tickets already.
-    TooManyTickets,
+    TooManyTickets = 9,
     /// A ceiling above 16,777,215.
-    CeilingTooHigh,
+    CeilingTooHigh = 10,
 }
 
 impl TicketRefusal {
@@ -17,10 +17,6 @@ impl TicketRefusal {
     pub fn number(self) -> u8
         ensures { result ≡ (meaning self).number }
     {
-        match self {
-            TicketRefusal::OutsideLimits => 8,
-            TicketRefusal::TooManyTickets => 9,
-            TicketRefusal::CeilingTooHigh => 10,
-        }
+        self as u8
     }
 }
