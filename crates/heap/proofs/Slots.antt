@@ -17,13 +17,13 @@ use Rattle.heap.proofs.Trees.{Lawful, root}
 module _ {X : Type 0} where
   -- e has the place n; w is what is sifted up, and becomes ys
   module _ (xs : List X) (n : ℕ) (e : X) (l : n < length xs) (w : List X) (part : w ≡ take (n + 1 - 0) (set xs n e)) where
-    pub with_last : w ≡ take n xs ++ e ∷ []
+    with_last : w ≡ take n xs ++ e ∷ []
     with_last = part ∙ ap (λ (k : ℕ). take k (set xs n e)) (omega arith) ∙ take_more_set xs n e l
 
-    pub with_last_long : length w ≡ n + 1
+    with_last_long : length w ≡ n + 1
     with_last_long = ap length with_last ∙ length_push (take n xs) e ∙ ap (λ k. k + 1) (length-take-le n xs (omega arith))
 
-    pub pushed_long : (ys : List X) → IsPermutation w ys → length ys ≡ n + 1
+    pushed_long : (ys : List X) → IsPermutation w ys → length ys ≡ n + 1
     pushed_long ys s = length_permutation w ys s ∙ with_last_long
 
     pub pushed_shuffled : (ys rest : List X) → IsPermutation w ys → IsPermutation (e ∷ take n xs) (take (n + 1) (ys ++ rest))
@@ -60,10 +60,6 @@ module _ {X : Type 0} where
         let begun : IsPermutation xs (a ∷ w) = subst (IsPermutation xs) same (without_first xs (length xs - 1) a z (omega arith)) in
         subst (λ (bs : List X). IsPermutation xs (a ∷ bs)) (sym (take_at ys rest (length xs - 1) (taken_long ys s)))
         (IsPermutation-trans xs (a ∷ w) (a ∷ ys) begun (IsPermutation-cons a w ys s))
-
-  -- one entry is out
-  pub fewer : (xs ys : List X) (x : X) → IsPermutation xs (x ∷ ys) → length ys + 1 ≡ length xs
-  fewer xs ys x s = omega (arith, length_permutation xs (x ∷ ys) s)
 
   -- a stands first
   first_of : (xs : List X) (a : X) → 0 < length xs → a ≡ get_or xs 0 a → take 1 xs ≡ a ∷ []
