@@ -29,9 +29,6 @@ returns-then-size-le1 g c =
     (ban_13 (setting_of p) (state_of R p) c.args.ticket c.args.start (omega (arith, ap length c.tickets.ensures)) (sym c.if-not-holds.ensures) (omega (arith, c.size.ensures)))
     refl)
 
-pub cut-requires : goal.cut-requires
-cut-requires g c = ap (λ s. g.S.Store.rows s c.args.ticket c.args.start) c.of-cutting.ensures.store ∙ sym c.if-not-holds.ensures
-
 pub returns : goal.returns
 returns g c =
     let R = g.S.Store.rows in
