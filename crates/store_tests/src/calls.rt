@@ -9,7 +9,7 @@ pub(crate) enum Call {
 }
 
 /// Calls of every kind, at the edges of words and rows, in range and out of it.
-pub(crate) const CALLS: [Call; 103] = [
+pub(crate) const CALLS: &[Call] = &[
     Call::Holds(0, 0),
     Call::Size(0),
     Call::After(0, 0),

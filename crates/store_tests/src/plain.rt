@@ -1,3 +1,4 @@
+use std::mem;
 use stores::{ROWS, STARTS};
 
 /// A flag for each start of each row.
@@ -18,31 +19,19 @@ impl Plain {
     }
 
     pub(crate) fn size(&self, row: usize) -> usize {
-        let mut size = 0;
-        for start in 0..STARTS {
-            if self.holds(row, start) {
-                size += 1;
-            }
-        }
-        size
+        (0..STARTS).filter(|start| self.holds(row, *start)).count()
     }
 
     pub(crate) fn after(&self, row: usize, start: usize) -> Option<usize> {
-        for t in start..STARTS {
-            if self.holds(row, t) {
-                return Some(t);
-            }
-        }
-        None
+        (start..STARTS).find(|start| self.holds(row, *start))
     }
 
     /// Sets the flag, and tells whether it changed.
     pub(crate) fn put(&mut self, row: usize, start: usize, flag: bool) -> bool {
-        if row >= ROWS || start >= STARTS {
-            return false;
-        }
-        let was = self.flags[row][start];
-        self.flags[row][start] = flag;
-        was != flag
+        let old = self
+            .flags
+            .get_mut(row)
+            .and_then(|flags| flags.get_mut(start));
+        old.is_some_and(|old| mem::replace(old, flag) != flag)
     }
 }

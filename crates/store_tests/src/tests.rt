@@ -1,36 +1,23 @@
 use crate::calls::{CALLS, Call};
 use crate::plain::Plain;
 use std::process::Abort;
-use std::test::Fail;
 use stores::{BitStore, ROWS, STARTS, Store};
 
 /// Makes one call of both, and compares the answers.
-fn same_answer<S: Store>(
-    rt: &impl Abort,
-    store: &mut S,
-    plain: &mut Plain,
-    call: Call,
-) -> Result<(), Fail> {
+fn same_answer<S: Store>(rt: &impl Abort, store: &mut S, plain: &mut Plain, call: Call) {
     match call {
         Call::Holds(row, start) => {
-            assert_eq!(rt; store.holds(row, start), plain.holds(row, start));
-            Ok(())
+            assert_eq!(rt; store.holds(row, start), plain.holds(row, start))
         },
-        Call::Size(row) => {
-            assert_eq!(rt; store.size(row), plain.size(row));
-            Ok(())
-        },
+        Call::Size(row) => assert_eq!(rt; store.size(row), plain.size(row)),
         Call::After(row, start) => {
-            assert_eq!(rt; store.after(row, start), plain.after(row, start));
-            Ok(())
+            assert_eq!(rt; store.after(row, start), plain.after(row, start))
         },
         Call::TakeOut(row, start) => {
-            assert_eq!(rt; store.take_out(row, start), plain.put(row, start, false));
-            Ok(())
+            assert_eq!(rt; store.take_out(row, start), plain.put(row, start, false))
         },
         Call::PutBack(row, start) => {
-            assert_eq!(rt; store.put_back(row, start), plain.put(row, start, true));
-            Ok(())
+            assert_eq!(rt; store.put_back(row, start), plain.put(row, start, true))
         },
     }
 }
@@ -52,16 +39,20 @@ fn same_rows<S: Store>(rt: &impl Abort, store: &S, plain: &Plain) {
 }
 
 /// Makes the calls of an empty store, beside a plain table.
-fn agrees<S: Store>(rt: &impl Abort, store: &mut S, calls: &[Call]) -> Result<(), Fail> {
+fn agrees<S: Store>(rt: &impl Abort, store: &mut S, calls: &[Call]) {
     let mut plain = Plain::empty();
     for call in calls {
-        same_answer(rt, store, &mut plain, *call)?;
+        same_answer(rt, store, &mut plain, *call);
     }
     same_rows(rt, store, &plain);
-    Ok(())
 }
 
 #[test]
-fn bit_store(rt: HostRuntime) -> Result<(), Fail> {
-    agrees(&rt, &mut BitStore::empty(), &CALLS)
+fn bit_store(rt: HostRuntime) {
+    agrees(&rt, &mut BitStore::empty(), CALLS);
+}
+
+#[test]
+fn default_bit_store(rt: HostRuntime) {
+    agrees(&rt, &mut BitStore::default(), CALLS);
 }

@@ -56,6 +56,7 @@ impl Store for BitStore {
         self.row_at(row).after(start)
     }
 
+    // `get_mut` says nothing of what the rows are afterwards, so the row is tested and indexed.
     fn take_out(&mut self, row: usize, start: usize) -> bool {
         row < ROWS && self.rows[row].take_out(start)
     }

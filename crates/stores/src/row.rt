@@ -40,6 +40,7 @@ impl Row {
     pub(crate) fn after(&self, start: usize) -> Option<usize>
         ensures { First (starts_of self.now) start result }
     {
+        // Places are counted, since the answer is made of one, and only the first word is read from its middle.
         let mut from = start % 64;
         for place in start / 64..WORDS {
             if let Some(k) = first_bit(self.words[place], from) {
