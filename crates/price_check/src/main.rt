@@ -2,32 +2,20 @@
 
 #![tactic(auto)]
 
-use anyhow::anyhow;
+use anyhow::{Context, anyhow};
 use pricing::Released;
 use std::io::Read;
+use std::slice::Iter;
 use tickets::{Collection, Terms};
 
-/// The numbers of the file, and how far they are read.
-#[derive(Drop)]
-struct Numbers {
-    all: Vec<u64>,
-    at: usize,
+/// The next number of the file.
+fn next(numbers: &mut Iter<u64>) -> anyhow::Result<u64> {
+    numbers.next().copied().context("the file ends too soon")
 }
 
-impl Numbers {
-    fn next(&mut self) -> anyhow::Result<u64> {
-        match self.all.get(self.at).copied() {
-            Some(number) => {
-                self.at = self.at.saturating_add(1);
-                Ok(number)
-            }
-            None => Err(anyhow!("the file ends too soon")),
-        }
-    }
-
-    fn byte(&mut self) -> anyhow::Result<u8> {
-        Ok(u8::try_from(self.next()?)?)
-    }
+/// The next number of the file, which is a byte.
+fn next_byte(numbers: &mut Iter<u64>) -> anyhow::Result<u8> {
+    Ok(u8::try_from(next(numbers)?)?)
 }
 
 /// How many prices were compared, and how many were wrong.
@@ -46,78 +34,71 @@ impl Tally {
     }
 }
 
-fn numbers_of(rt: &HostRuntime) -> anyhow::Result<Numbers> {
-    let heap = rt.alloc();
-    let mut text = String::new(heap);
+/// The numbers of the file.
+fn numbers_of(rt: &HostRuntime) -> anyhow::Result<Vec<u64>> {
+    let mut text = String::new(rt.alloc());
     rt.stdin().read_to_string(&mut text)?;
-    let mut all = Vec::new(heap);
-    for word in text.split_whitespace() {
-        all.push(word.parse::<u64>()?)?;
-    }
-    Ok(Numbers { all, at: 0 })
+    text.split_whitespace()
+        .map(|word| Ok(word.parse::<u64>()?))
+        .try_collect(rt.alloc())
 }
 
 /// Posts the tickets of a day, and answers their releases.
-fn posted(numbers: &mut Numbers, collection: &mut Collection) -> anyhow::Result<[u8; 24]> {
+fn posted(numbers: &mut Iter<u64>, collection: &mut Collection) -> anyhow::Result<[u8; 24]> {
     let mut releases = [0u8; 24];
-    let count = numbers.next()?;
+    let count = next(numbers)?;
     for _ in 0..count {
-        let first = numbers.byte()?;
-        let last = numbers.byte()?;
-        let length = numbers.byte()?;
-        let weight = u16::try_from(numbers.next()?)?;
-        let release = numbers.byte()?;
-        match collection.post(Terms {
-            first,
-            last,
-            length,
-            weight,
-        }) {
-            Ok(number) => {
-                if number < 24 {
-                    releases[number] = release;
-                }
-            }
-            Err(_) => return Err(anyhow!("a ticket is refused")),
+        let terms = Terms {
+            first: next_byte(numbers)?,
+            last: next_byte(numbers)?,
+            length: next_byte(numbers)?,
+            weight: u16::try_from(next(numbers)?)?,
+        };
+        let release = next_byte(numbers)?;
+        let number = collection
+            .post(terms)
+            .map_err(|_| anyhow!("a ticket is refused"))?;
+        if let Some(place) = releases.get_mut(number) {
+            *place = release;
         }
     }
     Ok(releases)
 }
 
 /// Compares the prices of one day.
-fn compare_day(numbers: &mut Numbers, tally: &mut Tally) -> anyhow::Result<()> {
+fn compare_day(numbers: &mut Iter<u64>, tally: &mut Tally) -> anyhow::Result<()> {
     let mut collection = Collection::new();
     let releases = posted(numbers, &mut collection)?;
     let released = Released {
         collection: &collection,
         releases,
     };
-    tally.compare(released.free_price(), numbers.next()?);
-    let pins = numbers.next()?;
+    tally.compare(released.free_price(), next(numbers)?);
+    let pins = next(numbers)?;
     for _ in 0..pins {
-        let ticket = numbers.byte()? as usize;
-        let start = numbers.byte()? as usize;
-        let other = numbers.next()?;
-        match released.pinned_price(ticket, start) {
-            Ok(price) => tally.compare(price, other),
-            Err(_) => return Err(anyhow!("a pinned price is refused")),
-        }
+        let ticket = usize::from(next_byte(numbers)?);
+        let start = usize::from(next_byte(numbers)?);
+        let other = next(numbers)?;
+        let price = released
+            .pinned_price(ticket, start)
+            .map_err(|_| anyhow!("a pinned price is refused"))?;
+        tally.compare(price, other);
     }
     Ok(())
 }
 
 fn compare_all(rt: &HostRuntime) -> anyhow::Result<()> {
-    let mut numbers = numbers_of(rt)?;
+    let all = numbers_of(rt)?;
+    let mut numbers = all.iter();
     let mut tally = Tally {
         prices: 0,
         wrong: 0,
     };
-    let days = numbers.next()?;
+    let days = next(&mut numbers)?;
     for _ in 0..days {
         compare_day(&mut numbers, &mut tally)?;
     }
-    let prices = tally.prices;
-    let wrong = tally.wrong;
+    let Tally { prices, wrong } = tally;
     println!(rt; "{days} days, {prices} prices, {wrong} wrong")?;
     Ok(())
 }

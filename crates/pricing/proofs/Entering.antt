@@ -1,5 +1,5 @@
 -- Entering one ticket after the other. Assumes nothing.
-use Rattle.std.proofs.Common.{◌≡◌, ℕ, ◌+◌, ◌<◌, ◌⊎◌, List, [], ◌∷◌, length, get_or, set, sym, refl, ap, ◌∙◌, subst, inl, inr, arith, length-set, get_or-set_other, get_or-set_same}
+use Rattle.std.proofs.Common.{◌≡◌, ℕ, ◌+◌, ◌<◌, ◌⊎◌, List, ◌∷◌, get_or, set, sym, ap, ◌∙◌, inl, inr, arith, length-set, get_or-set_other, get_or-set_same}
 use Rattle.std.specs.List.Sorted.{IsPermutation}
 use Rattle.std.proofs.ByRecursion.{All-weaker}
 use Rattle.std.proofs.lemmas.Bool.{cases_eq}
@@ -8,11 +8,6 @@ use Rattle.pricing.specs.declared.keys.Release.{Release}
 use Rattle.pricing.specs.Works.{entry}
 use Rattle.pricing.specs.Steps.{Coming, Ours, Entered}
 use Rattle.pricing.proofs.Bags.{in_old, in_new, all_put, length_put}
-
--- nothing is entered yet
-pub none_entered : (xs : List Work) (C : List Release) (left : List ℕ) → C ≡ [] → length left ≡ 24 → ((i : ℕ) → get_or left i 0 ≡ 0) → Entered xs 0 C left
-none_entered xs C left e l z = subst (λ (D : List Release). Entered xs 0 D left) (sym e)
-    record { many = refl; ours = tt; all = λ i h. absurd (omega arith); places = l; here = λ i h. absurd (omega arith); past = λ i h. z i }
 
 -- the ticket n is entered
 pub one_entered : (xs : List Work) (n : ℕ) (C C' : List Release) (left : List ℕ) → n < 24 → Entered xs n C left

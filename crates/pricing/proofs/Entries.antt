@@ -1,9 +1,11 @@
 -- Working entries: what pinning writes, and what putting back undoes. Assumes nothing.
-use Rattle.std.proofs.Common.{◌≡◌, ℕ, ◌<◌, ◌≤◌, Bool, List, length, get_or, set, ap, ◌∙◌, get_or-set_same, set-set}
+use Rattle.std.proofs.Common.{◌≡◌, ℕ, ◌<◌, ◌≤◌, Bool, List, length, get_or, set, ap, ◌∙◌, arith, length-set, set-set}
 use mathlib.Core.HLevel.{is_prop→PathP}
 use native.Mathlib.Bridge.{le_prop}
 use lib.Seq.{set-get_or}
+use Rattle.std.proofs.lemmas.Grind.{common_steps}
 use Rattle.std.proofs.lemmas.List.{get_or_default}
+use Rattle.std.specs.List.{refill}
 use Rattle.pricing.specs.declared.work.Work.{Work}
 use Rattle.pricing.specs.Works.{blank, entry, released, moved}
 
@@ -19,27 +21,24 @@ work_same x y a b c m = λ i. record {
   light = is_prop→PathP (λ j. b j ≤ 1000) (λ j. le_prop) x.light y.light i;
 }
 
--- entry i is given the release t and the mark b
-module _ (xs : List Work) (i t : ℕ) (b : Bool) (known : i < length xs) where
-  written : (x : Work) → x.release ≡ t → x.weight ≡ (entry xs i).weight → x.length ≡ (entry xs i).length → x.pinned ≡ b → set xs i x ≡ moved xs i t b
-  unfolding moved
-  written x r w p m = ap (λ (y : Work). set xs i y) (work_same x (released (entry xs i) t b) r w p m)
+-- what is read at a place of the entries
+pub found : (xs ys : List Work) (i : ℕ) (o : Work) → ys ≡ xs → i < length xs → o ≡ get_or ys i o → o ≡ entry xs i
+found xs ys i o e h is = is ∙ ap (λ (zs : List Work). get_or zs i o) e ∙ get_or_default xs i o blank h
 
-  pub restored : (o : ℕ) (q : Bool) → o ≡ (entry xs i).release → q ≡ (entry xs i).pinned → moved (moved xs i t b) i o q ≡ xs
-  unfolding moved
-  restored o q e f =
-      let x = released (entry xs i) t b in
-      let h = get_or-set_same xs i x blank known in
-      set-set xs i x (released (entry (set xs i x) i) o q)
-      ∙ (ap (λ (y : Work). set xs i y)
-      (work_same (released (entry (set xs i x) i) o q) (entry xs i) e (ap (λ (y : Work). y.weight) h) (ap (λ (y : Work). y.length) h) f)
-      ∙ set-get_or xs i blank)
+-- a write of as many elements is what is left
+refilled : {X : Type 0} (xs ws : List X) → length ws ≡ length xs → refill (length xs) xs ws ≡ ws
+refilled xs ws e = grind (arith, common_steps)
 
-  -- a write of the release and then of the mark; d₁ and d₂ are what stood there
-  pub two_writes : (d₁ d₂ x y : Work) → x.weight ≡ (get_or xs i d₁).weight → x.length ≡ (get_or xs i d₁).length → x.release ≡ t
-      → y.weight ≡ (get_or (set xs i x) i d₂).weight → y.length ≡ (get_or (set xs i x) i d₂).length → y.release ≡ (get_or (set xs i x) i d₂).release → y.pinned ≡ b → set (set xs i x) i y ≡ moved xs i t b
-  two_writes d₁ d₂ x y xw xp xr yw yp yr m =
-      let h = get_or-set_same xs i x d₂ known in
-      let g = get_or_default xs i d₁ blank known in
-      set-set xs i x y
-      ∙ written y (yr ∙ (ap (λ (z : Work). z.release) h ∙ xr)) (yw ∙ (ap (λ (z : Work). z.weight) h ∙ (xw ∙ ap (λ (z : Work). z.weight) g))) (yp ∙ (ap (λ (z : Work). z.length) h ∙ (xp ∙ ap (λ (z : Work). z.length) g))) m
+-- the entry o with the number i is replaced by x
+module _ (xs ws : List Work) (i : ℕ) (o x : Work) (same : ws ≡ xs) (is : o ≡ entry xs i) where
+  replaced : refill (length xs) xs (set ws i x) ≡ set xs i x
+  replaced = refilled xs (set ws i x) (length-set ws i x ∙ ap length same) ∙ ap (λ (ys : List Work). set ys i x) same
+
+  pub pinned : (t : ℕ) (b : Bool) → x.release ≡ t → x.weight ≡ o.weight → x.length ≡ o.length → x.pinned ≡ b → refill (length xs) xs (set ws i x) ≡ moved xs i t b
+  unfolding moved
+  pinned t b r w p m =
+      replaced
+      ∙ ap (λ (y : Work). set xs i y) (work_same x (released (entry xs i) t b) r (w ∙ ap (λ (y : Work). y.weight) is) (p ∙ ap (λ (y : Work). y.length) is) m)
+
+  pub put_back : set (refill (length xs) xs (set ws i x)) i o ≡ xs
+  put_back = ap (λ (ys : List Work). set ys i o) replaced ∙ set-set xs i x o ∙ ap (λ (y : Work). set xs i y) is ∙ set-get_or xs i blank

@@ -1,35 +1,37 @@
 -- The posted tickets, and their first starts one by one. Assumes nothing.
-use Rattle.std.proofs.Common.{◌≡◌, ℕ, suc, ◌+◌, ◌-◌, ◌<◌, ◌≤◌, List, [], ◌∷◌, ◌++◌, map, length, take, set, replicate, sym, refl, ap, ◌∙◌, arith, length-take}
-use Rattle.std.proofs.lemmas.List.{length-map, length-take-le, map_more, take_all}
+use Rattle.std.proofs.Common.{zero, get_or, inl, inr, subst, ◌≡◌, ℕ, suc, ◌+◌, ◌-◌, ◌<◌, ◌≤◌, List, [], ◌∷◌, ◌++◌, map, length, replicate, sym, refl, ap, ◌∙◌, arith, length-take}
+use Rattle.std.specs.Array.{IsFromFnResult, IsFromFnResultFrom}
+use Rattle.std.specs.Fn.{Called, Mut}
+use Rattle.std.proofs.lemmas.Bool.{cases_eq}
+use Rattle.std.proofs.lemmas.Grind.{same_number_lists}
+use Rattle.std.proofs.lemmas.List.{length-append, length-replicate, get_or-replicate, length-map}
 use Rattle.tickets.specs.declared.ticket.Ticket.{Ticket}
 use Rattle.tickets.specs.declared.collection.Collection.{Collection}
 use Rattle.tickets.specs.Collections.{posted}
-use Rattle.spreads.specs.Spreads.{blank, ticket}
-use Rattle.pricing.specs.Prices.{first_starts}
+use Rattle.pricing.specs.Prices.{start_of, first_starts}
 
 pub few_posted : (c : Collection) → length (posted c) ≤ 24
-few_posted c = omega (arith, length-take c.count c.tickets, c.few)
+few_posted c = omega (arith, length-take {A = Ticket})
 
--- a write into the first of the zeros after xs
-write_next : (xs : List ℕ) (n z : ℕ) → set (xs ++ replicate (suc n) 0) (length xs) z ≡ (xs ++ z ∷ []) ++ replicate n 0
-write_next [] n z = refl
-write_next (x ∷ xs) n z = ap (λ (r : List ℕ). x ∷ r) (write_next xs n z)
+-- what an array of the answers of a closure has, where a call leaves the closure as it is
+from_fn_at : {F B : Type 0} (g : Mut F (ℕ × Unit {0}) B) (f : F) (h : ℕ → B) → ((i : ℕ) (y : B) (q : F) → Called g f (i, tt) y q → (y ≡ h i) × (q ≡ f))
+    → (ys : List B) (i n : ℕ) → IsFromFnResultFrom g f ys i n → (k : ℕ) → i ≤ k → k < i + n → (d : B) → get_or ys k d ≡ h k
+from_fn_at g f h call ys i zero r k l u d = absurd (omega arith)
+from_fn_at g f h call ys i (suc n) (q, y, at, now, later) k l u d =
+    let e = call i y q now in
+    elim (cases_eq k i) [
+      | inl s ↦ ap (λ (j : ℕ). get_or ys j d) s ∙ at.1 d ∙ e.0 ∙ ap h (sym s)
+      | inr o ↦ from_fn_at g f h call ys (i + 1) n (subst (λ p. IsFromFnResultFrom g p ys (i + 1) n) e.1 later) k (omega (arith, o)) (omega arith) d
+    ]
 
--- the first starts of the first i tickets, and zeros
-abbrev pub starts_to : List Ticket → ℕ → List ℕ
-starts_to ts i = map (λ x. x.first) (take i ts) ++ replicate (24 - i) 0
+starts_at : (ts : List Ticket) (n k : ℕ) → k < length ts + n → get_or (map (λ x. x.first) ts ++ replicate n 0) k 0 ≡ start_of ts k
+starts_at [] n k h = get_or-replicate n k 0 0 (omega arith)
+starts_at (x ∷ ts) n zero h = refl
+starts_at (x ∷ ts) n (suc k) h = starts_at ts n k (omega arith)
 
-module _ (ts : List Ticket) (i : ℕ) (few : length ts ≤ 24) where
-  pub one_start : (rs : List ℕ) (z : ℕ) → i < length ts → rs ≡ starts_to ts i → z ≡ (ticket ts i).first → set rs i z ≡ starts_to ts (i + 1)
-  one_start rs z h e is =
-      let M : List ℕ = map (λ x. x.first) (take i ts) in
-      let m : length M ≡ i = length-map (take i ts) (λ x. x.first) ∙ length-take-le i ts (omega arith) in
-      let n : 24 - i ≡ suc (24 - (i + 1)) = omega arith in
-      ap (λ (r : List ℕ). set r i z) (e ∙ ap (λ (k : ℕ). M ++ replicate k 0) n)
-      ∙ ap (λ (k : ℕ). set (M ++ replicate (suc (24 - (i + 1))) 0) k z) (sym m)
-      ∙ write_next M (24 - (i + 1)) z
-      ∙ ap (λ (y : ℕ). (M ++ y ∷ []) ++ replicate (24 - (i + 1)) 0) is
-      ∙ ap (λ (r : List ℕ). r ++ replicate (24 - (i + 1)) 0) (sym (map_more (λ (x : Ticket). x.first) ts i blank h))
-
-  pub all_starts : i ≡ length ts → starts_to ts i ≡ first_starts ts
-  all_starts e = ap (λ (us : List Ticket). map (λ x. x.first) us ++ replicate (24 - i) 0) (take_all i ts (omega arith)) ∙ ap (λ (k : ℕ). map (λ x. x.first) ts ++ replicate (24 - k) 0) e
+-- the answers of a closure that answers the first starts
+pub starts_made : {F : Type 0} (g : Mut F (ℕ × Unit {0}) ℕ) (f : F) (ts : List Ticket) → length ts ≤ 24 → ((i : ℕ) (y : ℕ) (q : F) → Called g f (i, tt) y q → (y ≡ start_of ts i) × (q ≡ f))
+    → (ys : List ℕ) → IsFromFnResult g f ys 24 → ys ≡ first_starts ts
+starts_made g f ts few call ys r =
+    same_number_lists ys (first_starts ts) (omega (arith, r.long, length-append (map (λ x. x.first) ts) (replicate (24 - length ts) 0), length-map ts (λ x. x.first), length-replicate {A = ℕ} (24 - length ts) 0))
+    (λ k h. from_fn_at g f (start_of ts) call ys 0 24 r.each k (omega arith) (omega (arith, r.long)) 0 ∙ sym (starts_at ts (24 - length ts) k (omega (arith, r.long))))

@@ -1,6 +1,9 @@
 -- Which tickets the working entries stand for. Assumes nothing.
-use Rattle.std.proofs.Common.{◌≡◌, ℕ, ◌+◌, ◌*◌, ◌/◌, ◌<◌, ◌≤◌, Bool, true, false, cond, eqb, ◌⊎◌, List, length, set, sym, ap, ◌∙◌, subst, inl, inr, true≢false, arith, length-set, get_or-set_other, get_or-set_same, ltb-false}
+use Rattle.std.proofs.Common.{◌≡◌, ℕ, zero, suc, ◌+◌, ◌*◌, ◌/◌, ◌<◌, ◌≤◌, Bool, true, false, cond, eqb, ◌⊎◌, List, length, set, take, sym, refl, ap, ◌∙◌, subst, inl, inr, true≢false, add-one, arith, length-set, get_or-set_other, get_or-set_same, ltb-false}
+use Rattle.std.specs.List.{sum_by}
 use Rattle.std.proofs.lemmas.Bool.{cases_eq, eq-eqb, ne_eqb}
+use Rattle.std.proofs.lemmas.List.{take_all}
+use Rattle.std.proofs.lemmas.List.Sums.{sum_by_more}
 use Rattle.tickets.specs.declared.ticket.Ticket.{Ticket}
 use Rattle.spreads.specs.Lines.{sum_to}
 use Rattle.spreads.specs.Spreads.{ticket, value, half, release, LeastPrice}
@@ -65,9 +68,18 @@ module _ (ts : List Ticket) (r : ℕ → ℕ) (mark : ℕ → Bool) (xs : List W
   }
 
 -- half terms are those of the tickets
+halves_to : (xs : List Work) (k : ℕ) → k ≤ length xs → sum_by half_of (take k xs) ≡ sum_to k (λ i. half_of (entry xs i))
+halves_to xs zero h = refl
+halves_to xs (suc k) h =
+    ap (λ (n : ℕ). sum_by half_of (take n xs)) (sym (add-one k))
+    ∙ sum_by_more half_of xs k blank (omega arith)
+    ∙ ap (λ (s : ℕ). s + half_of (entry xs k)) (halves_to xs k (omega arith))
+
 pub halves_are : (ts : List Ticket) (r v : ℕ → ℕ) (xs : List Work) → Stands ts r v xs → halves_of xs ≡ halves ts
 halves_are ts r v xs st =
-    ap (λ (n : ℕ). sum_to n (λ i. half_of (entry xs i))) st.many
+    ap (λ (ys : List Work). sum_by half_of ys) (sym (take_all (length xs) xs (omega arith)))
+    ∙ halves_to xs (length xs) (omega arith)
+    ∙ ap (λ (n : ℕ). sum_to n (λ i. half_of (entry xs i))) st.many
     ∙ sum_same (length ts) (λ i. half_of (entry xs i)) (half ts)
     (λ i h. ap (λ (w : ℕ). w * ((entry xs i).length + 1) * 360360) (st.weights i h) ∙ ap (λ (p : ℕ). (ticket ts i).weight * (p + 1) * 360360) (st.lengths i h))
 

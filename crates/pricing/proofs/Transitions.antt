@@ -1,39 +1,37 @@
 -- One event after the other. Assumes nothing.
-use Rattle.std.proofs.Common.{◌≡◌, ℕ, ◌+◌, ◌-◌, ◌*◌, ◌/◌, ◌<◌, ◌≤◌, false, ◌⊎◌, List, [], ◌∷◌, length, get_or, set, Some, sym, refl, ap, ◌∙◌, subst, inl, inr, add-zero, zero-add, arith, length-set, get_or-set_other, get_or-set_same}
+use Rattle.std.proofs.Common.{◌≡◌, ℕ, ◌+◌, ◌-◌, ◌*◌, ◌/◌, ◌<◌, ◌≤◌, false, ◌⊎◌, List, [], ◌∷◌, length, get_or, set, Some, None, Option, sym, refl, ap, ◌∙◌, subst, inl, inr, add-zero, zero-add, arith, length-set, get_or-set_other, get_or-set_same}
 use Rattle.std.specs.List.{AllByRecursion}
 use Rattle.std.specs.List.Sorted.{IsPermutation}
 use Rattle.std.proofs.lemmas.Bool.{cases_eq, cases_lt}
+use Rattle.std.proofs.lemmas.List.{nil_from_length}
 use Rattle.std.proofs.ByRecursion.{all-has, All-weaker}
 use Rattle.tickets.specs.declared.ticket.Ticket.{Ticket}
 use Rattle.spreads.specs.Spreads.{ticket, value}
 use Rattle.spreads.specs.Builder.{Ready, First, Builds, ends, lengths}
 use Rattle.spreads.proofs.Building.{lengths_at}
 use Rattle.spreads.proofs.Onward.{like, plays_many, idles_many, alike}
+use Rattle.heap.specs.declared.heap.Heap.{Heap}
+use Rattle.heap.specs.Waiting.{waiting, Popped}
 use Rattle.pricing.specs.declared.work.Work.{Work}
 use Rattle.pricing.specs.declared.keys.Release.{Release}
 use Rattle.pricing.specs.declared.keys.Rank.{Rank}
-use Rattle.pricing.specs.declared.step.State.{State}
-use Rattle.pricing.specs.declared.step.State.TheVariants.{Idle, Playing}
+use Rattle.pricing.specs.declared.step.Playing.{Playing as Played}
 use Rattle.pricing.specs.declared.step.Event.{Event}
 use Rattle.pricing.specs.declared.step.Event.TheVariants.{Release as Released, Completion}
 use Rattle.pricing.specs.Keys.{higher}
 use Rattle.pricing.specs.Works.{entry, rank_of, Stands}
 use Rattle.pricing.specs.Terms.{slots_between, stretch_of, most_stretch}
-use Rattle.pricing.specs.Steps.{Coming, Ours, Entered, busy, Fine, Next, Busy}
+use Rattle.pricing.specs.Steps.{Coming, Ours, Entered, busy, Next, Busy}
 use Rattle.pricing.specs.Laws.{higher_chain, higher_irrefl}
 use Rattle.pricing.proofs.Queues.{all_none}
 use Rattle.pricing.proofs.Bags.{in_taken, all_taken, one_taken, length_taken, in_old, in_new, all_put, length_put}
-use Rattle.pricing.proofs.Going.{Waits, Rated, Under, Going}
+use Rattle.pricing.proofs.Going.{State, Idle, Playing, playing_in, Waits, Rated, Under, Going, GoingOn}
 
 abbrev slot_number : Release → ℕ
 slot_number x = x.number
 
 abbrev rank_number : Rank → ℕ
 rank_number x = x.number
-
-empty : {X : Type 0} (xs : List X) → length xs ≡ 0 → xs ≡ []
-empty [] e = refl
-empty (x ∷ xs) e = absurd (omega arith)
 
 -- a write of less keeps what is below
 set_le : (left : List ℕ) (o y : ℕ) → o < length left → y ≤ get_or left o 0 → (i : ℕ) → get_or (set left o y) i 0 ≤ get_or left i 0
@@ -97,7 +95,7 @@ module _ (xs : List Work) (C : List Release) (R : List Rank) (left : List ℕ) (
 
 -- a ticket is released
 module _ (xs : List Work) (st : State) (C C' : List Release) (R : List Rank) (left : List ℕ) (spent j at : ℕ)
-    (g : Going xs st C R left spent) (n : Next st left C C' (Some (Released j, at))) where
+    (g : Going xs st C R left spent) (n : Next (playing_in st) left C C' (Some (Released j, at))) where
   still : (i : ℕ) → Coming C i → (i ≡ j) ⊎ Coming C' i
   still i w = elim (in_taken slot_number C n.0 C' n.5 i w) [ inl e ↦ inl (e ∙ n.1) | inr v ↦ inr v ]
 
@@ -124,7 +122,7 @@ module _ (xs : List Work) (st : State) (C C' : List Release) (R : List Rank) (le
 
 -- and nothing plays: it plays
 module _ (xs : List Work) (C C' : List Release) (R : List Rank) (left : List ℕ) (spent j at s : ℕ)
-    (g : Going xs (Idle s) C R left spent) (n : Next (Idle s) left C C' (Some (Released j, at))) where
+    (g : Going xs (Idle s) C R left spent) (n : Next (playing_in (Idle s)) left C C' (Some (Released j, at))) where
   in_none : (i : ℕ) → Waits R i → ⊥
   in_none i (x, h, e) = omega (arith, h.1, g.on)
 
@@ -158,7 +156,7 @@ module _ (xs : List Work) (C C' : List Release) (R : List Rank) (left : List ℕ
               | inr (inl q) ↦ inr (inl q)
               | inr (inr z) ↦ absurd z
             ];
-        on = (known_j xs (Idle s) C C' R left spent j at g n, omega (arith, when xs (Idle s) C C' R left spent j at g n), omega arith, all_none (Under xs at j) R (empty R z));
+        on = (known_j xs (Idle s) C C' R left spent j at g n, omega (arith, when xs (Idle s) C C' R left spent j at g n), omega arith, all_none (Under xs at j) R (nil_from_length R z));
         soon = omega (arith, g.count, g.few);
         cheap = omega (arith, g.cheap);
         so_far = λ ts r v st c q. g.so_far ts r v st c (idles_many ts r v s left (at - s) (nobody ts r v st) c (like ts r v (sym e) refl refl q));
@@ -166,7 +164,7 @@ module _ (xs : List Work) (C C' : List Release) (R : List Rank) (left : List ℕ
 
 -- and another one plays: the stretch that it has played by then
 module _ (xs : List Work) (C C' : List Release) (R : List Rank) (left : List ℕ) (spent j at o s : ℕ)
-    (g : Going xs (Playing o s) C R left spent) (n : Next (Playing o s) left C C' (Some (Released j, at))) where
+    (g : Going xs (Playing o s) C R left spent) (n : Next (playing_in (Playing o s)) left C C' (Some (Released j, at))) where
   pub stretch_fits : (s ≤ at) × (at ≤ s + 16) × (at ≤ 1023) × (at - s ≤ get_or left o 0)
   stretch_fits =
       let a = later_at xs (Playing o s) C C' R left spent j at g n in
@@ -174,7 +172,7 @@ module _ (xs : List Work) (C C' : List Release) (R : List Rank) (left : List ℕ
       (omega (arith, g.begun, a), omega (arith, n.3, g.short o), omega arith, omega (arith, n.3))
 
 module _ (xs : List Work) (C C' : List Release) (R R' : List Rank) (left : List ℕ) (spent j at o s : ℕ)
-    (g : Going xs (Playing o s) C R left spent) (n : Next (Playing o s) left C C' (Some (Released j, at))) where
+    (g : Going xs (Playing o s) C R left spent) (n : Next (playing_in (Playing o s)) left C C' (Some (Released j, at))) where
   -- those that waited, at the later clock and under the ticket k
   still_under : (k : ℕ) → higher (rank_of xs o) (rank_of xs k) ≡ false → AllByRecursion (Under xs at k) R
   still_under k over =
@@ -261,7 +259,7 @@ module _ (xs : List Work) (C C' : List Release) (R R' : List Rank) (left : List 
 
 -- what played is done
 module _ (xs : List Work) (C C' : List Release) (R : List Rank) (left : List ℕ) (spent at o s : ℕ)
-    (g : Going xs (Playing o s) C R left spent) (n : Next (Playing o s) left C C' (Some (Completion, at)))
+    (g : Going xs (Playing o s) C R left spent) (n : Next (playing_in (Playing o s)) left C C' (Some (Completion (record { ticket = o; since = s }), at)))
     (cost : ℕ) (is : cost ≡ stretch_of (entry xs o) s at) (most : cost ≤ most_stretch) where
   lo : o < length left
   lo = omega (arith, g.on.0, g.few, g.places)
@@ -375,20 +373,40 @@ first xs C R left few none e =
     z : length R ≡ 0
     z = ap length none
 
-pub at_state : {xs : List Work} {st st' : State} {C : List Release} {R : List Rank} {left : List ℕ} {spent : ℕ} → st ≡ st'
-    → Going xs st C R left spent → Going xs st' C R left spent
-at_state {xs} {st} {st'} {C} {R} {left} {spent} e g = subst (λ (v : State). Going xs v C R left spent) e g
+pub at_next : (left : List ℕ) (C C' : List Release) (at : ℕ) {p p' : Option Played} {ev ev' : Event} → p ≡ p' → ev ≡ ev'
+    → Next p left C C' (Some (ev, at)) → Next p' left C C' (Some (ev', at))
+at_next left C C' at {p} {p'} {ev} {ev'} e f n =
+    subst (λ (v : Option Played). Next v left C C' (Some (ev', at))) e (subst (λ (v : Event). Next p left C C' (Some (v, at))) f n)
 
-pub at_next : (left : List ℕ) (C C' : List Release) (at : ℕ) {st st' : State} {ev ev' : Event} → st ≡ st' → ev ≡ ev'
-    → Next st left C C' (Some (ev, at)) → Next st' left C C' (Some (ev', at))
-at_next left C C' at {st} {st'} {ev} {ev'} e f n =
-    subst (λ (v : State). Next v left C C' (Some (ev', at))) e (subst (λ (v : Event). Next st left C C' (Some (v, at))) f n)
+module _ {xs : List Work} {C : List Release} {R : List Rank} {left : List ℕ} {spent : ℕ} where
+  -- nothing plays
+  pub idle_now : {p : Option Played} → p ≡ None → GoingOn xs p C R left spent → (s : ℕ) × Going xs (Idle s) C R left spent
+  idle_now e (Idle s, is, g) = (s, g)
+  idle_now e (Playing j s, is, g) = cc
+
+  -- the ticket of q plays
+  pub plays_now : {p : Option Played} (q : Played) → p ≡ Some q → GoingOn xs p C R left spent → Going xs (Playing q.ticket q.since) C R left spent
+  plays_now q e (Idle s, is, g) = cc
+  plays_now q e (Playing j s, is, g) =
+      let f : record { ticket = j; since = s } ≡ q = cc in
+      subst (λ (v : Played). Going xs (Playing v.ticket v.since) C R left spent) f g
+
+-- what played is done, and r came out of those that wait: it plays
+pub after : (xs : List Work) (C C' : List Release) (h k : Heap Rank Rank) (left : List ℕ) (spent at o s : ℕ)
+    → Going xs (Playing o s) C (waiting h) left spent → Next (playing_in (Playing o s)) left C C' (Some (Completion (record { ticket = o; since = s }), at))
+    → (cost : ℕ) → cost ≡ stretch_of (entry xs o) s at → cost ≤ most_stretch
+    → (r : Option Rank) → Popped higher h r k → (p : Option Played) → (r ≡ None → p ≡ None) → ((x : Rank) → r ≡ Some x → p ≡ Some (record { ticket = x.number; since = at }))
+    → GoingOn xs p C' (waiting k) (set left o 0) (spent + cost)
+after xs C C' h k left spent at o s g n cost is most None popped p none some =
+    (Idle at, none refl, rests xs C C' (waiting h) left spent at o s g n cost is most (waiting k) (ap waiting popped.1) (ap length popped.0))
+after xs C C' h k left spent at o s g n cost is most (Some x) popped p none some =
+    (Playing x.number at, some x refl, goes_on xs C C' (waiting h) left spent at o s g n cost is most x (waiting k) x.number refl popped.1 popped.0.least)
 
 -- nothing plays and nothing is to come
-pub all_over : (xs : List Work) (st : State) (C : List Release) (R : List Rank) (left : List ℕ) (spent : ℕ) → Going xs st C R left spent
-    → busy st ≡ 0 → length C ≡ 0 → Busy xs spent
-all_over xs (Playing j s) C R left spent g b e ts r v st = absurd (omega arith)
-all_over xs (Idle s) C R left spent g b e ts r v st =
+pub all_over : (xs : List Work) (p : Option Played) (C : List Release) (R : List Rank) (left : List ℕ) (spent : ℕ) → GoingOn xs p C R left spent
+    → busy p ≡ 0 → length C ≡ 0 → Busy xs spent
+all_over xs p C R left spent (Playing j s, is, g) b e ts r v st = absurd (omega (arith, ap busy is, b))
+all_over xs p C R left spent (Idle s, is, g) b e ts r v st =
     like ts r v refl refl (add-zero spent)
     (g.so_far ts r v st 0 (ends (λ i h.
     elim (cases_lt 0 (get_or left i 0)) [
@@ -397,7 +415,3 @@ all_over xs (Idle s) C R left spent g b e ts r v st =
           [ inl q ↦ absurd (omega (arith, q.1.1)) | inr (inl q) ↦ absurd (omega (arith, q.1.1, g.on)) | inr (inr z) ↦ absurd z ]
       | inr z ↦ omega arith
     ])))
-
-pub fine : (xs : List Work) (st : State) (C : List Release) (R : List Rank) (left : List ℕ) (spent : ℕ) → Going xs st C R left spent → Fine left st
-fine xs (Idle s) C R left spent g = tt
-fine xs (Playing j s) C R left spent g = (omega (arith, g.on.0, g.few, g.places), omega (arith, g.soon, g.short j))

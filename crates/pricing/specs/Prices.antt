@@ -1,5 +1,7 @@
 -- What the calls for prices answer. Assumes nothing.
 use Rattle.std.specs.Prelude.{ℕ, ◌+◌, ◌-◌, ◌*◌, ◌<◌, ◌≤◌, List, ◌++◌, map, length, replicate, Ok, Err, Result}
+use Rattle.std.specs.List.{slice_get}
+use Rattle.std.specs.Option.{option_map_or}
 use Rattle.tickets.specs.declared.ticket.Ticket.{Ticket}
 use Rattle.tickets.specs.declared.planner_refusal.PlannerRefusal.{PlannerRefusal}
 use Rattle.tickets.specs.declared.planner_refusal.PlannerRefusal.TheVariants.{NoSuchTicket, NoSuchStart, OnlyStart, CeilingNotLower, TooManyLevels, StaleToken, TooShort, PlanLength, Overlap, CostTooHigh, Hopeless}
@@ -40,6 +42,10 @@ PinnedAnswer ts rs i t (Err e) = Answers meaning (record { tickets = ts; ticket 
 -- f is the free price divided by 720720, rounded up
 abbrev pub Floor : List Ticket → List ℕ → ℕ → Type 0
 Floor ts rs f = (c : ℕ) × LeastPrice ts rs c × (c ≤ 720720 * f) × (720720 * f < c + 720720)
+
+-- the first start of ticket i, and 0 where no ticket has the number
+abbrev pub start_of : List Ticket → ℕ → ℕ
+start_of ts i = option_map_or (λ x. x.first) (slice_get ts i) 0
 
 -- the first start of each ticket, and 0 for the numbers up to 23 that no ticket has
 abbrev pub first_starts : List Ticket → List ℕ

@@ -6,8 +6,7 @@ use Rattle.tickets.specs.declared.ticket.Ticket.{Ticket}
 use Rattle.spreads.specs.Builder.{Builds, lengths, halves}
 use Rattle.pricing.specs.declared.work.Work.{Work}
 use Rattle.pricing.specs.declared.keys.Release.{Release}
-use Rattle.pricing.specs.declared.step.State.{State}
-use Rattle.pricing.specs.declared.step.State.TheVariants.{Idle, Playing}
+use Rattle.pricing.specs.declared.step.Playing.{Playing}
 use Rattle.pricing.specs.declared.step.Event.{Event}
 use Rattle.pricing.specs.declared.step.Event.TheVariants.{Release as Released, Completion}
 use Rattle.pricing.specs.Works.{entry, Stands}
@@ -34,26 +33,31 @@ pub record Entered (xs : List Work) (n : ℕ) (C : List Release) (left : List �
   pub past : (i : ℕ) → n ≤ i → slice_index left i ≡ 0
 
 -- how many tickets play
-abbrev pub busy : State → ℕ
-busy (Idle s) = 0
-busy (Playing j s) = 1
+abbrev pub busy : Option Playing → ℕ
+busy None = 0
+busy (Some p) = 1
 
--- when what plays is done, if nothing comes between; a moment past all releases where nothing plays
-abbrev pub end : State → List ℕ → ℕ
-end (Idle s) left = 65535
-end (Playing j s) left = s + slice_index left j
+-- the completion of what plays and its moment, if nothing comes between
+abbrev pub completion_of : Option Playing → List ℕ → Option (Event × ℕ)
+completion_of None left = None
+completion_of (Some p) left = Some (Completion p, p.since + slice_index left p.ticket)
 
 -- what plays has a place in the list, and is done soon enough
-abbrev pub Fine : List ℕ → State → Type 0
-Fine left (Idle s) = Unit {0}
-Fine left (Playing j s) = (j < length left) × (s + slice_index left j < 65535)
+abbrev pub Fine : List ℕ → Option Playing → Type 0
+Fine left None = Unit {0}
+Fine left (Some p) = (p.ticket < length left) × (p.since + slice_index left p.ticket < 65536)
+
+-- the moment t comes before what plays is done, if something plays
+abbrev pub Before : Option Playing → List ℕ → ℕ → Type 0
+Before None left t = Unit {0}
+Before (Some p) left t = t < p.since + slice_index left p.ticket
 
 -- the next event and its moment: C was to come, and C' is to come after it. A release comes only before what plays is done.
-abbrev pub Next : State → List ℕ → List Release → List Release → Option (Event × ℕ) → Type 0
-Next state left C C' None = (busy state ≡ 0) × (length C ≡ 0)
-Next state left C C' (Some (Released j, at)) =
-    (x : Release) × (x.number ≡ j) × (x.slot ≡ at) × (at < end state left) × AllByRecursion (λ y. at ≤ y.slot) C × IsPermutation C (x ∷ C') × (at ≤ 255)
-Next state left C C' (Some (Completion, at)) = (busy state ≡ 1) × (at ≡ end state left) × AllByRecursion (λ y. at ≤ y.slot) C × (C' ≡ C)
+abbrev pub Next : Option Playing → List ℕ → List Release → List Release → Option (Event × ℕ) → Type 0
+Next playing left C C' None = (busy playing ≡ 0) × (length C ≡ 0)
+Next playing left C C' (Some (Released j, at)) =
+    (x : Release) × (x.number ≡ j) × (x.slot ≡ at) × Before playing left at × AllByRecursion (λ y. at ≤ y.slot) C × IsPermutation C (x ∷ C') × (at ≤ 255)
+Next playing left C C' (Some (Completion p, at)) = (playing ≡ Some p) × (at ≡ p.since + slice_index left p.ticket) × AllByRecursion (λ y. at ≤ y.slot) C × (C' ≡ C)
 
 -- c has the busy terms of what is built of the entries, whatever tickets they stand for
 abbrev pub Busy : List Work → ℕ → Type 0

@@ -1,8 +1,8 @@
 -- The terms of a price, by working entries. Assumes nothing.
-use Rattle.std.specs.Prelude.{ℕ, ◌+◌, ◌-◌, ◌*◌, ◌/◌, List, length}
+use Rattle.std.specs.Prelude.{ℕ, ◌+◌, ◌-◌, ◌*◌, ◌/◌, List}
+use Rattle.std.specs.List.{sum_by}
 use Rattle.spreads.specs.Lines.{sum_to}
 use Rattle.pricing.specs.declared.work.Work.{Work}
-use Rattle.pricing.specs.Works.{entry}
 
 -- the sum of the slots s to t - 1
 abbrev pub slots_between : ℕ → ℕ → ℕ
@@ -25,4 +25,4 @@ abbrev pub most_half : ℕ
 most_half = 1000 * 17 * 360360
 
 abbrev pub halves_of : List Work → ℕ
-halves_of xs = sum_to (length xs) (λ i. half_of (entry xs i))
+halves_of xs = sum_by half_of xs

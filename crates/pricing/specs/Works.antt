@@ -42,7 +42,7 @@ pub record EntryOf (t : Ticket) (r : ℕ) (b : Bool) (x : Work) : Type 0 where
   pub release : x.release ≡ r
   pub pinned : x.pinned ≡ b
 
--- the first n of the 24 entries are those of the tickets with these releases, unmarked
+-- the entries are those of the first n tickets, with these releases and unmarked
 pub record Made (ts : List Ticket) (rs : List ℕ) (n : ℕ) (xs : List Work) : Type 0 where
-  pub room : length xs ≡ 24
+  pub many : length xs ≡ n
   pub made : (i : ℕ) → i < n → EntryOf (ticket ts i) (release rs i) false (entry xs i)

@@ -9,9 +9,9 @@ ghost use Rattle.pricing.specs.Steps.{Entered, Busy, Priced};
 use crate::events::next_event;
 use crate::guard::Guard;
 use crate::keys::{Rank, Release};
-use crate::step::{Event, State};
+use crate::step::{Event, Playing};
 use crate::terms::{half, stretch};
-use crate::work::Work;
+use crate::work::Works;
 use heap::{Heap, Order};
 
 /// What stands in a slot in which nothing waits.
@@ -25,116 +25,107 @@ const NO_RANK: Rank = Rank {
     number: 0,
 };
 
-/// The half terms of all tickets.
-fn halves(entries: &[Work]) -> u64
-    requires { length entries.now ≤ 24 }
-    ensures value { result ≡ halves_of entries.now }
-    ensures most { result ≤ 24 * most_half }
-{
-    let mut sum = 0u64;
-    for entry in entries {
-        sum += half(*entry);
+impl Works {
+    /// The half terms of all tickets.
+    fn halves(&self) -> u64
+        ensures value { result ≡ halves_of self.now.entries.items }
+        ensures most { result ≤ 24 * most_half }
+    {
+        self.entries.iter().map(|entry| half(*entry)).sum()
     }
-    sum
-}
 
-/// How a ticket ranks.
-fn rank(entries: &[Work], ticket: usize) -> Rank
-    requires { (ticket < length entries.now) × (length entries.now ≤ 24) }
-    ensures { result ≡ rank_of entries.now ticket }
-{
-    let entry = entries[ticket];
-    Rank {
-        pinned: entry.pinned,
-        weight: entry.weight,
-        length: entry.length,
-        number: ticket as u8,
-    }
-}
-
-/// Enters each ticket's release into `coming`, and what it has to play into `left`.
-fn enter(entries: &[Work], coming: &mut Heap<Release>, left: &mut [u8])
-    requires few { length entries.now ≤ 24 }
-    requires sound { Sound sooner coming.old }
-    requires room { room coming.old ≡ 24 }
-    requires entered { Entered entries.now 0 (waiting coming.old) left.old }
-    ensures sound { Sound sooner coming.new }
-    ensures slots { SameSlots coming.old coming.new }
-    ensures entered { Entered entries.now (length entries.now) (waiting coming.new) left.new }
-{
-    for i in 0..entries.len() {
-        let entry = entries[i];
-        left[i] = entry.length;
-        let _ = coming.push(Release {
-            slot: entry.release,
-            number: i as u8,
-        });
-    }
-}
-
-/// Plays all tickets, and answers the busy terms of the price. There is room for each ticket in both lines.
-fn play(entries: &[Work]) -> u64
-    requires { length entries.now ≤ 24 }
-    ensures busy { Busy entries.now result }
-    ensures most { result ≤ 48 * most_stretch }
-{
-    let mut coming_slots = [NO_RELEASE; 24];
-    let mut ready_slots = [NO_RANK; 24];
-    let mut left = [0u8; 24];
-    let mut coming = Heap::new(&mut coming_slots);
-    let mut ready = Heap::new(&mut ready_slots);
-    enter(entries, &mut coming, &mut left);
-    let mut state = State::Idle { since: 0 };
-    let mut spent = 0u64;
-    while let Some((event, at)) = next_event(&mut coming, state, &left) {
-        match (state, event) {
-            (State::Idle { .. }, Event::Release(ticket)) => state = State::Playing {
-                ticket,
-                since: at,
-            },
-            (State::Playing { ticket: old, since }, Event::Release(ticket)) => {
-                let own = rank(entries, ticket);
-                let other = rank(entries, old);
-                if own.is_before(&other) {
-                    spent += stretch(entries[old], since, at);
-                    left[old] -= (at - since) as u8;
-                    let _ = ready.push(other);
-                    state = State::Playing { ticket, since: at };
-                } else {
-                    let _ = ready.push(own);
-                }
-            }
-            (State::Playing { ticket: old, since }, Event::Completion) => {
-                spent += stretch(entries[old], since, at);
-                left[old] = 0;
-                state = match ready.pop() {
-                    Some(next) => State::Playing {
-                        ticket: next.number as usize,
-                        since: at,
-                    },
-                    None => State::Idle { since: at },
-                };
-            }
-            (State::Idle { .. }, Event::Completion) => unreachable(),
+    // The bound on a number hangs on the works that it is used with, so no type of a number states it: the clause stays
+    // here, in `build_pinned` and in `Guard::pin`.
+    /// How a ticket ranks.
+    fn rank(&self, ticket: usize) -> Rank
+        requires { ticket < length self.now.entries.items }
+        ensures { result ≡ rank_of self.now.entries.items ticket }
+    {
+        let entry = self.entries[ticket];
+        Rank {
+            pinned: entry.pinned,
+            weight: entry.weight,
+            length: entry.length,
+            number: ticket as u8,
         }
     }
-    spent
-}
 
-/// The price of the spread that is built.
-pub(crate) fn build(entries: &[Work]) -> u64
-    requires { length entries.now ≤ 24 }
-    ensures { Priced entries.now result }
-{
-    halves(entries) + play(entries)
-}
+    /// Enters each ticket's release into `coming`, and what it has to play into `left`.
+    fn enter(&self, coming: &mut Heap<Release>, left: &mut [u8])
+        requires sound { Sound sooner coming.old }
+        requires room { room coming.old ≡ 24 }
+        requires entered { Entered self.now.entries.items 0 (waiting coming.old) left.old }
+        ensures sound { Sound sooner coming.new }
+        ensures slots { SameSlots coming.old coming.new }
+        ensures entered { Entered self.now.entries.items (length self.now.entries.items) (waiting coming.new) left.new }
+    {
+        for (number, entry) in self.entries.iter().enumerate() {
+            left[number] = entry.length;
+            let _ = coming.push(Release {
+                slot: entry.release,
+                number: number as u8,
+            });
+        }
+    }
 
-/// The price of the spread that is built with the ticket pinned at `start`. The entries are afterwards as before.
-pub(crate) fn build_pinned(entries: &mut [Work], ticket: usize, start: u8) -> u64
-    requires { (ticket < length entries.old) × (length entries.old ≤ 24) }
-    ensures restored { entries.new ≡ entries.old }
-    ensures price { Priced (moved entries.old ticket start true) result }
-{
-    let guard = Guard::pin(entries, ticket, start);
-    build(guard.entries())
+    /// Plays all tickets, and answers the busy terms of the price. There is room for each ticket in both lines.
+    fn play(&self) -> u64
+        ensures busy { Busy self.now.entries.items result }
+        ensures most { result ≤ 48 * most_stretch }
+    {
+        let mut coming_slots = [NO_RELEASE; 24];
+        let mut ready_slots = [NO_RANK; 24];
+        // What each ticket has left stands beside the entries, since those are only lent.
+        let mut left = [0u8; 24];
+        let mut coming = Heap::new(&mut coming_slots);
+        let mut ready = Heap::new(&mut ready_slots);
+        self.enter(&mut coming, &mut left);
+        let mut playing: Option<Playing> = None;
+        let mut spent = 0u64;
+        while let Some((event, at)) = next_event(&mut coming, playing, &left) {
+            match event {
+                Event::Release(ticket) => match playing {
+                    None => playing = Some(Playing { ticket, since: at }),
+                    Some(old) => {
+                        let own = self.rank(ticket);
+                        let other = self.rank(old.ticket);
+                        if own.is_before(&other) {
+                            spent += stretch(self.entries[old.ticket], old.since, at);
+                            left[old.ticket] -= (at - old.since) as u8;
+                            let _ = ready.push(other);
+                            playing = Some(Playing { ticket, since: at });
+                        } else {
+                            let _ = ready.push(own);
+                        }
+                    }
+                },
+                Event::Completion(old) => {
+                    spent += stretch(self.entries[old.ticket], old.since, at);
+                    left[old.ticket] = 0;
+                    playing = ready.pop().map(|next| Playing {
+                        ticket: usize::from(next.number),
+                        since: at,
+                    });
+                }
+            }
+        }
+        spent
+    }
+
+    /// The price of the spread that is built.
+    pub(crate) fn build(&self) -> u64
+        ensures { Priced self.now.entries.items result }
+    {
+        self.halves() + self.play()
+    }
+
+    /// The price of the spread that is built with the ticket pinned at `start`. The entries are afterwards as before.
+    pub(crate) fn build_pinned(&mut self, ticket: usize, start: u8) -> u64
+        requires { ticket < length self.old.entries.items }
+        ensures restored { self.new.entries.items ≡ self.old.entries.items }
+        ensures price { Priced (moved self.old.entries.items ticket start true) result }
+    {
+        let guard = Guard::pin(self, ticket, start);
+        guard.works().build()
+    }
 }

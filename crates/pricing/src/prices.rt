@@ -3,10 +3,11 @@ ghost use Rattle.std.specs.Prelude.{◌≡◌, ◌≤◌, length};
 ghost use Rattle.tickets.specs.Collections.{posted};
 ghost use Rattle.spreads.specs.Spreads.{LeastPrice};
 ghost use Rattle.pricing.specs.Works.{Made};
-ghost use Rattle.pricing.specs.Prices.{PinnedAnswer, Floor, first_starts};
+ghost use Rattle.pricing.specs.Prices.{PinnedAnswer, Floor, start_of, first_starts};
 
-use crate::build::{build, build_pinned};
-use crate::work::Work;
+use crate::work::{Work, Works};
+use arrayvec::ArrayVec;
+use std::array;
 use tickets::{Collection, PlannerRefusal, Ticket};
 
 /// The last slot in which a ticket can start.
@@ -22,27 +23,11 @@ pub struct Released<'a> {
     pub releases: [u8; 24],
 }
 
-/// The working entries of the tickets, none of them pinned.
-fn working_entries(tickets: &[Ticket], releases: &[u8; 24]) -> [Work; 24]
-    requires { length tickets.now ≤ 24 }
-    ensures { Made tickets.now releases.now (length tickets.now) result }
+/// The first start of the ticket, and 0 where no ticket has the number.
+fn first_start(tickets: &[Ticket], number: usize) -> u8
+    ensures { result ≡ start_of tickets.now number }
 {
-    let mut entries = [Work {
-        release: 0,
-        weight: 0,
-        length: 1,
-        pinned: false,
-    }; 24];
-    for i in 0..tickets.len() {
-        let ticket = tickets[i];
-        entries[i] = Work {
-            release: releases[i],
-            weight: ticket.weight,
-            length: ticket.length,
-            pinned: false,
-        };
-    }
-    entries
+    tickets.get(number).map_or(0, |ticket| ticket.first)
 }
 
 impl<'a> Released<'a> {
@@ -52,23 +37,33 @@ impl<'a> Released<'a> {
         ensures releases { result.releases ≡ first_starts (posted collection.now) }
     {
         let tickets = collection.tickets();
-        let mut releases = [0u8; 24];
-        for i in 0..tickets.len() {
-            releases[i] = tickets[i].first;
-        }
         Released {
             collection,
-            releases,
+            releases: array::from_fn(|number| first_start(tickets, number)),
         }
+    }
+
+    /// The working entries of the tickets, none of them pinned.
+    fn works(&self) -> Works
+        ensures { Made (posted self.now.collection.now) self.now.releases (length (posted self.now.collection.now)) result.entries.items }
+    {
+        let mut entries = ArrayVec::new();
+        for (ticket, release) in self.collection.tickets().iter().zip(&self.releases) {
+            entries.push(Work {
+                release: *release,
+                weight: ticket.weight,
+                length: ticket.length,
+                pinned: false,
+            });
+        }
+        Works { entries }
     }
 
     /// The least price of a spread of the tickets.
     pub fn free_price(&self) -> u64
         ensures { LeastPrice (posted self.now.collection.now) self.now.releases result }
     {
-        let tickets = self.collection.tickets();
-        let entries = working_entries(tickets, &self.releases);
-        build(&entries[0..tickets.len()])
+        self.works().build()
     }
 
     /// The least price of a spread in which the ticket has the slots from `start` on, whatever its release. Refused
@@ -76,15 +71,13 @@ impl<'a> Released<'a> {
     pub fn pinned_price(&self, ticket: usize, start: usize) -> Result<u64, PlannerRefusal>
         ensures { PinnedAnswer (posted self.now.collection.now) self.now.releases ticket start result }
     {
-        let tickets = self.collection.tickets();
-        if ticket >= tickets.len() {
+        if ticket >= self.collection.tickets().len() {
             return Err(PlannerRefusal::NoSuchTicket);
         }
         if start > LAST_START {
             return Err(PlannerRefusal::NoSuchStart);
         }
-        let mut entries = working_entries(tickets, &self.releases);
-        Ok(build_pinned(&mut entries[0..tickets.len()], ticket, start as u8))
+        Ok(self.works().build_pinned(ticket, start as u8))
     }
 
     /// The free price divided by 720720, rounded up.

@@ -1,10 +1,10 @@
 //! What the builder is at, and what happens to it.
 
-/// What plays, and since when.
+/// A ticket that plays, and since when.
 #[derive(Clone, Copy)]
-pub(crate) enum State {
-    Idle { since: u16 },
-    Playing { ticket: usize, since: u16 },
+pub(crate) struct Playing {
+    pub(crate) ticket: usize,
+    pub(crate) since: u16,
 }
 
 /// What happens next.
@@ -13,5 +13,5 @@ pub(crate) enum Event {
     /// The ticket is released.
     Release(usize),
     /// What plays is done.
-    Completion,
+    Completion(Playing),
 }

@@ -1,4 +1,7 @@
-ghost use Rattle.std.specs.Prelude.{◌≤◌};
+//! The working entries of tickets.
+ghost use Rattle.std.specs.Prelude.{◌≤◌, length};
+
+use arrayvec::ArrayVec;
 
 /// The working entry of a ticket.
 #[derive(Clone, Copy)]
@@ -12,4 +15,23 @@ pub(crate) struct Work {
     ghost plays: { 1 ≤ length },
     ghost short: { length ≤ 16 },
     ghost light: { weight ≤ 1000 },
+}
+
+/// What stands in a place of `Works` that no ticket has.
+impl Default for Work {
+    fn default() -> Work {
+        Work {
+            release: 0,
+            weight: 0,
+            length: 1,
+            pinned: false,
+        }
+    }
+}
+
+/// The working entries of all tickets of a collection, by their numbers.
+#[derive(Drop)]
+pub(crate) struct Works {
+    pub(crate) entries: ArrayVec<Work, 24>,
+    ghost few: { length entries.items ≤ 24 },
 }

@@ -1,35 +1,26 @@
-use Rattle.std.proofs.Common.{◌≡◌, ◌≤◌, length, refl, ap, arith}
-use Rattle.std.specs.List.{AllByRecursion}
+use Rattle.std.proofs.Common.{rules, ◌≡◌, ℕ, nat_lt, Some, None, Option, sym, ◌∙◌, subst, arith}
 use Rattle.heap.specs.Waiting.{waiting}
 use Rattle.heap.proofs.Consequences.{as_peeked}
-use Rattle.pricing.specs.declared.step.State.{State}
+use Rattle.pricing.specs.declared.step.Event.{Event}
 use Rattle.pricing.specs.Keys.{sooner}
-use Rattle.pricing.specs.Steps.{busy, end}
-use Rattle.pricing.proofs.Queues.{later, all_none}
-use Rattle.pricing.proofs.events.next_event.Goals.{in-Some+else-at-end, in_default}
+use Rattle.pricing.specs.Steps.{Next}
+use Rattle.pricing.proofs.Queues.{is_released, is_done}
 use Rattle.pricing.proofs.events.next_event.Goals as goal
 
-pub returns-then-at-end : goal.returns-then-at-end
-returns-then-at-end c =
+pub returns-then-is_none_or-clause-next : goal.returns-then-is_none_or-clause-next
+returns-then-is_none_or-clause-next c =
+    let x = c.in-Some.first in
+    let e = c.completion-completion.ensures in
+    let tells : (v : Event × ℕ) → c.completion-completion.result ≡ Some v → c.is_none_or.result ≡ nat_lt x.slot v.1 = λ v h. search rules in
+    is_released c.args.left.now _ x c.in-Some.ensures c.is_none_or.result c.args.playing _ _ _ (omega arith) (omega arith) c.if-is_none_or.true (λ v h. tells v (e ∙ h))
+    (as_peeked sooner c.args.coming.now _ x c.pop.result c.in-Some.ensures c.pop.ensures.popped).1 (omega arith)
+
+pub returns-else-is_none_or-clause-next : goal.returns-else-is_none_or-clause-next
+returns-else-is_none_or-clause-next c =
     let C = waiting c.args.coming.now in
     let x = c.in-Some.first in
-    record {
-      sound = c.pop.ensures.sound;
-      next = (x, refl, refl, omega (arith, c.if-at-end.true, c.done_at-end.ensures), later C x x.slot c.in-Some.ensures (omega arith), (as_peeked sooner c.args.coming.now _ x c.pop.result c.in-Some.ensures c.pop.ensures.popped).1, omega arith);
-    }
-
-pub returns-in-Idle : goal.returns-in-Idle
-returns-in-Idle c =
-    let C = waiting c.args.coming.now in
-    let s = c.in-Idle.is in
-    let e : end c.args.state c.args.left.now ≡ 65535 = ap (λ (v : State). end v c.args.left.now) s in
-    let z : length C ≡ 0 = elim c.match-peek.branch [ in-Some+else-at-end w ↦ absurd (omega (arith, w.if-at-end.false, c.done_at-end.ensures)) | in_default w ↦ ap length w.in_default.ensures ] in
-    record { sound = c.requires.sound; next = (ap busy s, z) }
-
-pub returns-in-Playing : goal.returns-in-Playing
-returns-in-Playing c =
-    let C = waiting c.args.coming.now in
-    let s = c.in-Playing.is in
-    let t = c.done_at-end.result in
-    let z : AllByRecursion (λ y. t ≤ y.slot) C = elim c.match-peek.branch [ in-Some+else-at-end w ↦ later C w.in-Some.first t w.in-Some.ensures (omega (arith, w.if-at-end.false)) | in_default w ↦ all_none (λ y. t ≤ y.slot) C w.in_default.ensures ] in
-    record { sound = c.requires.sound; next = (ap busy s, c.done_at-end.ensures, z, refl) }
+    let e = c.completion-completion.ensures in
+    let plays : c.completion-completion.result ≡ None → ⊥ = search rules in
+    let tells : (v : Event × ℕ) → c.completion-completion.result ≡ Some v → c.is_none_or.result ≡ nat_lt x.slot v.1 = λ v h. search rules in
+    subst (λ (r : Option (Event × ℕ)). Next c.args.playing c.args.left.now C C r) (sym e)
+    (is_done c.args.left.now C x c.in-Some.ensures c.is_none_or.result c.args.playing c.if-is_none_or.false (λ h. plays (e ∙ h)) (λ v h. tells v (e ∙ h)))
