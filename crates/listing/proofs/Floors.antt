@@ -1,5 +1,5 @@
 -- A table has one floor. Assumes nothing.
-use Rattle.std.proofs.Common.{◌≡◌, ℕ, ◌<◌, ◌≤◌, List, length, sym, ◌∙◌, subst, inl, inr, ⊎_elim, arith}
+use Rattle.std.proofs.Common.{◌≡◌, ℕ, List, length, sym, ◌∙◌, subst, inl, inr, arith}
 use Rattle.std.proofs.lemmas.Bool.{both_ways, cases_lt}
 use Rattle.std.proofs.lemmas.List.{ext_get_or}
 use Rattle.tickets.specs.declared.ticket.Ticket.{Ticket}
@@ -13,11 +13,7 @@ use Rattle.listing.proofs.Unique.{earliest_same}
 -- the first starts of the rows are these
 pub first_starts_same : (R : Rows) (n : ℕ) (rs ss : List ℕ) → FirstStarts R n rs → FirstStarts R n ss → rs ≡ ss
 first_starts_same R n rs ss p q =
-    ext_get_or 0 rs ss (p.places ∙ sym q.places) (λ i _.
-    ⊎_elim
-    (λ (m : i < n). earliest_same (R i) 0 (release rs i) (release ss i) (p.here i m) (q.here i m))
-    (λ (m : n ≤ i). p.past i m ∙ sym (q.past i m))
-    (cases_lt i n))
+    ext_get_or 0 rs ss (p.places ∙ sym q.places) (λ i _. grind (arith, cases_lt i n, p.past i, q.past i, p.here i, q.here i, earliest_same (R i) 0 (release rs i) (release ss i)))
 
 -- with the same releases the floor is the same
 pub floor_same : (ts : List Ticket) (rs : List ℕ) (f g : ℕ) → Floor ts rs f → Floor ts rs g → f ≡ g

@@ -1,8 +1,8 @@
-mod Spelling
-mod Lengths
 pub mod Placing
 pub mod Unique
+mod Lengths
 mod Rows
+mod Made
 mod Tables
 pub mod Floors
 pub mod Listings

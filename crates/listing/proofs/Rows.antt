@@ -1,66 +1,35 @@
--- Going through the ranges of a row, to measure them or to write them. Assumes nothing.
-use Rattle.std.proofs.Common.{◌≡◌, ℕ, ◌+◌, ◌*◌, ◌<◌, ◌≤◌, Bool, List, [], ◌∷◌, ◌++◌, length, None, sym, refl, ap, ◌∙◌, subst, append_assoc, append-nil, arith, length-append}
-use Rattle.std.proofs.lemmas.List.{flat_map_more}
-use Rattle.stores.specs.Sets.{Rows, Bounded, First}
+-- Going through the ranges of a row, to write them. Assumes nothing.
+use Rattle.std.proofs.Common.{◌≡◌, ℕ, ◌+◌, ◌-◌, ◌<◌, ◌≤◌, Bool, true, false, List, [], ◌∷◌, ◌++◌, length, Some, None, Option, MatchOption, unwrap_or, sym, ap, ◌∙◌, subst, arith, length-append}
+use Rattle.std.proofs.lemmas.Bool.{cases_Bool, cases_eq}
+use Rattle.stores.specs.Sets.{Rows, Bounded, Earliest, First}
 use Rattle.listing.specs.declared.range.Range.{Range}
-use Rattle.listing.specs.Placing.{Placed, Long, Fits, Writes}
+use Rattle.listing.specs.Placing.{HasRoom, IsTaken}
 use Rattle.listing.specs.Ranges.{Leads, Ranges}
 use Rattle.listing.specs.Texts.{range_text, ranges_text}
 use Rattle.listing.specs.Lines.{RangesOf}
-use Rattle.listing.proofs.Placing.{placed_none, placed_more, placed_same, placed_text}
 use Rattle.listing.proofs.Unique.{leads_same, leads_none, ranges_same}
 
 -- a range ends below 256
 pub leads_low : (R : Rows) (i from : ℕ) (r : Range) → Bounded R → Leads (R i) from r → r.last < 256
 leads_low R i from r b p = (b i r.last (p.unbroken r.last p.rises (omega arith))).1
 
--- one range more
-more_text : (rs : List Range) (r : Range) → ranges_text (rs ++ r ∷ []) ≡ ranges_text rs ++ range_text r
-more_text rs r = sym (flat_map_more range_text [] rs r)
+-- nothing is in a row from 256 on
+pub high_out : (R : Rows) (i : ℕ) → Bounded R → (t : ℕ) → 256 ≤ t → R i t ≡ false
+high_out R i b t h = grind (arith, cases_Bool (R i t), b i t)
 
--- the ranges of f before `from` take len bytes
-pub record Measured (f : ℕ → Bool) (from len : ℕ) : Type 0 where
-  pub done : List Range
-  pub goes : (rs : List Range) → Ranges f from rs → Ranges f 0 (done ++ rs)
-  pub is : len ≡ length (ranges_text done)
-  pub few : len ≤ 21 * from
-  pub low : from ≤ 257
-
-pub measured_none : (f : ℕ → Bool) → Measured f 0 0
-measured_none f = record { done = []; goes = λ rs h. h; is = refl; few = omega arith; low = omega arith }
-
-pub measured_more : (R : Rows) (i from len n : ℕ) (r : Range) → Bounded R → Measured (R i) from len → Leads (R i) from r → n ≡ length (range_text r) → n ≤ 42 → Measured (R i) (r.last + 2) (len + n)
-measured_more R i from len n r b m p e few = record {
-  done = m.done ++ r ∷ [];
-  goes = λ rs h. subst (Ranges (R i) 0) (sym (append_assoc m.done (r ∷ []) rs)) (m.goes (r ∷ rs) (p, h));
-  is = omega (arith, m.is, ap length (more_text m.done r), length-append (ranges_text m.done) (range_text r));
-  few = omega (arith, m.few, p.begins.reached, p.rises);
-  low = omega (arith, leads_low R i from r b p);
+-- a range ends before the first later start that is out of the row
+pub range_to : (f : ℕ → Bool) (from first n : ℕ) → Earliest f from first → first < n → f n ≡ false → ((t : ℕ) → first + 1 ≤ t → t < n → f t ≡ true) → Leads f from (record { first = first; last = n - 1 })
+range_to f from first n e l off on = record {
+  begins = e;
+  rises = omega arith;
+  unbroken = λ t p q. grind (arith, cases_eq t first, e.held, on t);
+  ends = let s : n - 1 + 1 ≡ n = omega arith in ap f s ∙ off;
 }
 
-pub measured_all : (f : ℕ → Bool) (from len : ℕ) → Measured f from len → First f from None → Long (RangesOf f) len
-measured_all f from len m h = (ranges_text m.done, (m.done, subst (Ranges f 0) (append-nil m.done) (m.goes [] h), refl), m.is)
-
--- the ranges of f before `from` stand in the buffer, and the others have room
-pub record Going (f : ℕ → Bool) (was : List ℕ) (at : ℕ) (is : List ℕ) (from end : ℕ) : Type 0 where
-  pub done : List Range
-  pub left : List Range
-  pub all : Ranges f 0 (done ++ left)
-  pub rest : Ranges f from left
-  pub placed : Placed was at (ranges_text done) is end
-  pub room : end + length (ranges_text left) ≤ length was
-  pub low : from ≤ 257
-
-pub going_none : (f : ℕ → Bool) (was : List ℕ) (at : ℕ) → Fits (RangesOf f) at (length was) → Going f was at was 0 at
-going_none f was at (text, (rs, h, e), room) = record {
-  done = [];
-  left = rs;
-  all = h;
-  rest = h;
-  placed = placed_none was at (omega arith);
-  room = omega (arith, ap length e);
-  low = omega arith;
-}
+-- that start, where it is looked for up to 255
+pub found_range : (R : Rows) (i : ℕ) → Bounded R → (from first : ℕ) → Earliest (R i) from first → (r : Option ℕ) → MatchOption r ((t : ℕ) → first + 1 ≤ t → t < 256 → R i t ≡ true) (λ n. (first + 1 ≤ n) × (n < 256) × (R i n ≡ false) × ((t : ℕ) → first + 1 ≤ t → t < n → R i t ≡ true)) → (1 ≤ unwrap_or r 256) × Leads (R i) from (record { first = first; last = unwrap_or r 256 - 1 })
+found_range R i b from first e None h = let l = (b i first e.held).1 in (omega arith, range_to (R i) from first 256 e (omega arith) (high_out R i b 256 (omega arith)) h)
+found_range R i b from first e (Some n) (l, m, off, on) = (omega arith, range_to (R i) from first n e (omega arith) off on)
 
 -- the range that comes next is the first of those that are left
 head_is : (f : ℕ → Bool) (from : ℕ) (rs : List Range) (r : Range) → Ranges f from rs → Leads f from r → (ss : List Range) × (rs ≡ r ∷ ss) × Ranges f (r.last + 2) ss
@@ -69,30 +38,40 @@ head_is f from (s ∷ ss) r h p =
     let e = leads_same f from s r h.0 p in
     (ss, ap (λ x. x ∷ ss) e, subst (λ x. Ranges f (x.last + 2) ss) e h.1)
 
-nil_is : (f : ℕ → Bool) (from : ℕ) (rs : List Range) → Ranges f from rs → First f from None → rs ≡ []
-nil_is f from rs h none = ranges_same f from rs [] h none
+module _ {W : Type 0} (room : W → ℕ) (takes : W → List ℕ → W → Type 0) where
+  -- the ranges that are left, from `from` on, have room; where they are taken, the ranges of the row are
+  pub record Going (f : ℕ → Bool) (was is : W) (from : ℕ) : Type 0 where
+    pub left : List Range
+    pub rest : Ranges f from left
+    pub fits : length (ranges_text left) ≤ room is
+    pub on : (end : W) → takes is (ranges_text left) end → IsTaken (RangesOf f) (λ text. takes was text end)
+    pub low : from ≤ 257
 
-module _ (f : ℕ → Bool) (was : List ℕ) (at : ℕ) (is : List ℕ) (from end : ℕ) (g : Going f was at is from end) where
-  pub going_room : (r : Range) → Leads f from r → end + length (range_text r) ≤ length is
-  going_room r p =
-      let (ss, e, h) = head_is f from g.left r g.rest p in
-      omega (arith, g.room, ap (λ x. length (ranges_text x)) e, length-append (range_text r) (ranges_text ss), placed_same was is (ranges_text g.done) at end g.placed)
+  pub going_none : (f : ℕ → Bool) (was : W) → HasRoom (RangesOf f) (room was) → Going f was was 0
+  going_none f was (text, (rs, h, e), fits) = record {
+    left = rs;
+    rest = h;
+    fits = omega (arith, ap length e);
+    on = λ end t other (ss, k, d). subst (λ x. takes was x end) (ap ranges_text (ranges_same f 0 rs ss h k) ∙ sym d) t;
+    low = omega arith;
+  }
 
-  pub going_more : (r : Range) (new : List ℕ) (e : ℕ) → Leads f from r → r.last < 256 → Placed is end (range_text r) new e → Going f was at new (r.last + 2) e
-  going_more r new e p low q =
-      let (ss, same, h) = head_is f from g.left r g.rest p in
-      record {
-        done = g.done ++ r ∷ [];
-        left = ss;
-        all = subst (Ranges f 0) (ap (λ x. g.done ++ x) same ∙ sym (append_assoc g.done (r ∷ []) ss)) g.all;
-        rest = h;
-        placed = placed_text was new _ _ at e (sym (more_text g.done r)) (placed_more was is new (ranges_text g.done) (range_text r) at end e g.placed q);
-        room = omega (arith, g.room, q.ends, ap (λ x. length (ranges_text x)) same, length-append (range_text r) (ranges_text ss));
-        low = omega arith;
-      }
+  module _ (both : (s t u : W) (a b : List ℕ) → takes s a t → takes t b u → takes s (a ++ b) u) (less : (s t : W) (a : List ℕ) → takes s a t → room s ≤ length a + room t) (f : ℕ → Bool) (was is : W) (from : ℕ) (g : Going f was is from) where
+    pub going_room : (r : Range) → Leads f from r → length (range_text r) ≤ room is
+    going_room r p =
+        let (ss, e, h) = head_is f from g.left r g.rest p in
+        omega (arith, g.fits, ap (λ x. length (ranges_text x)) e, length-append (range_text r) (ranges_text ss))
 
-  pub going_all : First f from None → Writes (RangesOf f) was at is end
-  going_all none text (rs, h, e) =
-      let nil = nil_is f from g.left g.rest none in
-      let same : g.done ≡ rs = sym (append-nil g.done) ∙ ap (λ x. g.done ++ x) (sym nil) ∙ ranges_same f 0 (g.done ++ g.left) rs g.all h in
-      placed_text was is (ranges_text g.done) text at end (ap ranges_text same ∙ sym e) g.placed
+    pub going_more : (r : Range) (new : W) → Leads f from r → r.last < 256 → takes is (range_text r) new → Going f was new (r.last + 2)
+    going_more r new p low t =
+        let (ss, e, h) = head_is f from g.left r g.rest p in
+        record {
+          left = ss;
+          rest = h;
+          fits = omega (arith, g.fits, ap (λ x. length (ranges_text x)) e, length-append (range_text r) (ranges_text ss), less is new (range_text r) t);
+          on = λ end k. g.on end (subst (λ x. takes is (ranges_text x) end) (sym e) (both is new end (range_text r) (ranges_text ss) t k));
+          low = omega arith;
+        }
+
+    pub going_all : ((s : W) → takes s [] s) → First f from None → IsTaken (RangesOf f) (λ text. takes was text is)
+    going_all nothing none = g.on is (subst (λ x. takes is (ranges_text x) is) (sym (ranges_same f from g.left [] g.rest none)) (nothing is))

@@ -1,23 +1,18 @@
 -- A row has one list of longest unbroken ranges. Assumes nothing.
-use Rattle.std.proofs.Common.{◌≡◌, ℕ, ◌+◌, ◌<◌, ◌≤◌, Bool, List, [], ◌∷◌, get_or, None, sym, refl, ◌∙◌, subst, ⊎_elim, arith}
+use Rattle.std.proofs.Common.{◌≡◌, ℕ, ◌+◌, ◌<◌, ◌≤◌, Bool, List, [], ◌∷◌, get_or, Some, None, sym, refl, ◌∙◌, subst, arith}
 use Rattle.std.proofs.lemmas.Bool.{both_ways, cases_lt}
 use Rattle.std.proofs.lemmas.List.{ext_get_or}
 use Rattle.stores.specs.Sets.{Rows, Earliest, First}
-use Rattle.stores.proofs.Firsts.{earliest_least}
+use Rattle.stores.proofs.Firsts.{first_same}
 use Rattle.listing.specs.declared.range.Range.{Range}
 use Rattle.listing.specs.Ranges.{Leads, Ranges, TableRanges}
 
 pub earliest_same : (f : ℕ → Bool) (from v w : ℕ) → Earliest f from v → Earliest f from w → v ≡ w
-earliest_same f from v w p q =
-    omega (arith, earliest_least f from v w p q.reached q.held, earliest_least f from w v q p.reached p.held)
+earliest_same f from v w p q = let e = first_same f from (Some v) (Some w) p q in cc
 
 -- a range that begins at the same start ends no later than another
 leads_last : (f : ℕ → Bool) (from : ℕ) (r s : Range) → Leads f from r → Leads f from s → r.first ≡ s.first → r.last ≤ s.last
-leads_last f from r s p q e =
-    ⊎_elim
-    (λ (m : s.last < r.last). absurd (both_ways (f (s.last + 1)) q.ends (p.unbroken (s.last + 1) (omega (arith, q.rises)) (omega arith))))
-    (λ (m : r.last ≤ s.last). m)
-    (cases_lt s.last r.last)
+leads_last f from r s p q e = grind (arith, cases_lt s.last r.last, p.unbroken (s.last + 1), q.ends, q.rises)
 
 -- there is one first range
 pub leads_same : (f : ℕ → Bool) (from : ℕ) (r s : Range) → Leads f from r → Leads f from s → r ≡ s

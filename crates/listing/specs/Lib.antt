@@ -1,4 +1,5 @@
 pub mod Placing
+pub mod Sinks
 pub mod Ranges
 pub mod Texts
 pub mod Lines

@@ -6,9 +6,13 @@
 
 #![tactic(auto)]
 
+mod counter;
+mod listing;
 mod numbers;
+mod page;
 mod range;
 mod row_lines;
+mod sink;
 pub mod table;
 
 pub use table::{listing_length, one_listing, write_listing};

@@ -1,68 +1,36 @@
-//! Bytes and numbers in a buffer.
-ghost use Rattle.std.specs.Prelude.{◌≡◌, ◌+◌, ◌<◌, ◌≤◌, length, drop, decimal};
-ghost use Rattle.listing.specs.Placing.{Placed};
-ghost use Rattle.listing.specs.Texts.{line};
+//! Numbers, and the lines and ranges that are made of them.
+ghost use Rattle.std.specs.Prelude.{◌≤◌, [], ◌∷◌, ◌++◌, length};
+ghost use Rattle.listing.specs.Texts.{range_text};
 
-/// The digits of the highest number.
-const WIDEST: usize = 20;
-
-/// Writes a text that has room, and answers where it ends.
-pub(crate) fn place(buffer: &mut [u8], at: usize, text: &[u8]) -> usize
-    requires { at + length text.now ≤ length buffer.old }
-    ensures { Placed buffer.old at text.now buffer.new result }
-{
-    let end = at + text.len();
-    buffer[at..end].copy_from_slice(text);
-    end
-}
-
-/// The digits of a number, at the end of the array, and where they begin.
-fn digits(n: u64) -> ([u8; WIDEST], usize)
-    ensures { (drop result.1 result.0 ≡ decimal n) × (result.1 < 20) × (length result.0 ≡ 20) }
-{
-    let mut text = [0; WIDEST];
-    let mut at = WIDEST - 1;
-    let mut rest = n;
-    while rest >= 10 {
-        text[at] = b'0' + (rest % 10) as u8;
-        rest /= 10;
-        at -= 1;
-    }
-    text[at] = b'0' + rest as u8;
-    (text, at)
-}
-
-/// How many digits a number has.
-pub(crate) fn number_length(n: u64) -> usize
-    ensures { (result ≡ length (decimal n)) × (result ≤ 20) }
-{
-    let (_, start) = digits(n);
-    WIDEST - start
-}
+use crate::range::Range;
+use crate::sink::Sink;
+use itoa::{Buffer, Integer};
 
 /// Writes a number.
-pub(crate) fn place_number(buffer: &mut [u8], at: usize, n: u64) -> usize
-    requires { at + length (decimal n) ≤ length buffer.old }
-    ensures { Placed buffer.old at (decimal n) buffer.new result }
+pub(crate) fn write_number<W: Sink, I: Integer>(out: &mut W, n: I)
+    requires { length (I.text n) ≤ W.room out.old }
+    ensures { W.takes out.old (I.text n) out.new }
 {
-    let (text, start) = digits(n);
-    place(buffer, at, &text[start..])
-}
-
-/// How many bytes the line of a word and a number has.
-pub(crate) fn line_length(word: &[u8], n: u64) -> usize
-    requires { length word.now < 100 }
-    ensures { (result ≡ length (line word.now n)) × (result ≤ 120) }
-{
-    word.len() + number_length(n) + 1
+    out.put(Buffer::new().format(n).as_bytes());
 }
 
 /// Writes the line of a word and a number.
-pub(crate) fn place_line(buffer: &mut [u8], at: usize, word: &[u8], n: u64) -> usize
-    requires { at + length (line word.now n) ≤ length buffer.old }
-    ensures { Placed buffer.old at (line word.now n) buffer.new result }
+pub(crate) fn write_line<W: Sink, I: Integer>(out: &mut W, word: &[u8], n: I)
+    requires { length (word.now ++ (I.text n ++ 10 ∷ [])) ≤ W.room out.old }
+    ensures { W.takes out.old (word.now ++ (I.text n ++ 10 ∷ [])) out.new }
 {
-    let at = place(buffer, at, word);
-    let at = place_number(buffer, at, n);
-    place(buffer, at, b"\n")
+    out.put(word);
+    write_number(out, n);
+    out.put(b"\n");
+}
+
+/// Writes a range.
+pub(crate) fn write_range<W: Sink>(out: &mut W, range: Range)
+    requires { length (range_text range) ≤ W.room out.old }
+    ensures { W.takes out.old (range_text range) out.new }
+{
+    out.put(b" ");
+    write_number(out, range.first);
+    out.put(b"-");
+    write_number(out, range.last);
 }

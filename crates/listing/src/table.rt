@@ -1,75 +1,40 @@
 //! The listing of a table.
 ghost use Rattle.std.specs.Prelude.{◌≡◌, ℕ, ◌≤◌, List, length};
 ghost use Rattle.tickets.specs.Collections.{posted};
-ghost use Rattle.listing.specs.Lines.{TextOf};
 ghost use Rattle.listing.specs.Listings.{Lists, Listed, OneListing};
-ghost use Rattle.listing.specs.Placing.{Long, Fits, Writes};
 
-use crate::numbers::{line_length, place_line};
-use crate::row_lines::{place_rows, rows_length};
-use queries::floor;
+use crate::listing::Listing;
+use crate::page::Page;
+use queries::Table;
 use stores::Store;
-use tickets::{Collection, PlannerRefusal};
-
-/// How many bytes the listing of the first `count` rows has.
-fn text_length<S: Store>(floor: u64, ceiling: u32, store: &S, count: usize) -> usize
-    requires { count ≤ 24 }
-    ensures { Long (TextOf floor ceiling (S.rows store.now) count) result }
-{
-    line_length(b"floor ", floor)
-        + line_length(b"ceiling ", ceiling as u64)
-        + rows_length(store, count)
-}
-
-/// Writes that listing at the front of the buffer, and answers where it ends.
-fn place_text<S: Store>(
-    buffer: &mut [u8],
-    floor: u64,
-    ceiling: u32,
-    store: &S,
-    count: usize,
-) -> usize
-    requires { Fits (TextOf floor ceiling (S.rows store.now) count) 0 (length buffer.old) }
-    ensures { Writes (TextOf floor ceiling (S.rows store.now) count) buffer.old 0 buffer.new result }
-{
-    let at = place_line(buffer, 0, b"floor ", floor);
-    let at = place_line(buffer, at, b"ceiling ", ceiling as u64);
-    place_rows(buffer, at, store, count)
-}
+use tickets::PlannerRefusal;
 
 /// How many bytes the listing has.
-pub fn listing_length<S: Store>(collection: &Collection, ceiling: u32, store: &S) -> usize
-    ensures { (text : List ℕ) × Lists (posted collection.now) ceiling (S.rows store.now) text × (result ≡ length text) }
+pub fn listing_length<S: Store>(table: &Table<'_, S>, ceiling: u32) -> usize
+    ensures { (text : List ℕ) × Lists (posted table.now.collection.now) ceiling (S.rows table.now.store.now) text × (result ≡ length text) }
 {
-    text_length(
-        floor(collection, store),
-        ceiling,
-        store,
-        collection.tickets().len(),
-    )
+    Listing::of(table, ceiling).length()
 }
 
 /// Writes the listing into the buffer, and answers its length. Refused where the buffer is too short; it is
 /// then as it was.
 pub fn write_listing<S: Store>(
-    collection: &Collection,
+    table: &Table<'_, S>,
     ceiling: u32,
-    store: &S,
     buffer: &mut [u8],
 ) -> Result<usize, PlannerRefusal>
-    ensures { Listed (posted collection.now) ceiling (S.rows store.now) buffer.old result buffer.new }
+    ensures { Listed (posted table.now.collection.now) ceiling (S.rows table.now.store.now) buffer.old result buffer.new }
 {
-    let floor = floor(collection, store);
-    let count = collection.tickets().len();
-    if buffer.len() < text_length(floor, ceiling, store, count) {
+    let listing = Listing::of(table, ceiling);
+    if buffer.len() < listing.length() {
         return Err(PlannerRefusal::TooShort);
     }
-    Ok(place_text(buffer, floor, ceiling, store, count))
+    let mut page = Page { buffer, end: 0 };
+    listing.fill(&mut page);
+    Ok(page.end)
 }
 
 /// There is one listing of a table.
-pub fn one_listing() -> u8
+pub fn one_listing()
     ensures { OneListing }
-{
-    0
-}
+{}

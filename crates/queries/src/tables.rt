@@ -16,8 +16,9 @@ impl<'a, S: Store> Table<'a, S> {
         ensures releases { Released (posted self.now.collection.now) (S.rows self.now.store.now) (option_map (λ r. r.releases) result) }
     {
         let mut releases = [0u8; 24];
-        for i in 0..self.collection.tickets().len() {
-            releases[i] = self.store.after(i, 0)? as u8;
+        let used = &mut releases[..self.collection.tickets().len()];
+        for (row, release) in used.iter_mut().enumerate() {
+            *release = self.store.after(row, 0)? as u8;
         }
         Some(pricing::Released {
             collection: self.collection,

@@ -1,5 +1,7 @@
-use Rattle.queries.specs.TablePrices.{FirstStarts}
+use Rattle.std.proofs.Common.{ℕ, ◌<◌}
+use Rattle.stores.specs.Sets.{Earliest}
+use Rattle.spreads.specs.Spreads.{release}
 use Rattle.queries.proofs.table.Table.released.Given as goal
 
-abbrev pub invariant-loop-i : goal.invariant-loop-i
-invariant-loop-i g l = FirstStarts (g.S.Store.rows l.self.store.now) l.i l.releases
+abbrev pub invariant-loop-row : goal.invariant-loop-row
+invariant-loop-row g l = (i : ℕ) → i < l.row → Earliest (g.S.Store.rows l.self.store.now i) 0 (release l.used i)

@@ -1,9 +1,0 @@
-use Rattle.std.proofs.Common.{◌-◌}
-use Rattle.listing.proofs.Rows.{Going}
-use Rattle.listing.proofs.row_lines.place_ranges.Given as goal
-
-abbrev pub invariant-loop-range : goal.invariant-loop-range
-invariant-loop-range g l = Going (g.S.Store.rows l.store l.row) l.initial.buffer l.at l.buffer l.from l.end
-
-abbrev pub decreases-loop-range : goal.decreases-loop-range
-decreases-loop-range g l = 258 - l.from
