@@ -3,7 +3,7 @@ use Rattle.std.proofs.Common.{◌≡◌, ◌∷◌, reverse, refl, ap, ◌∙◌
 use Rattle.stores.specs.Sets.{Rows}
 use Rattle.stores.specs.BitRows.{bit_rows}
 use Rattle.stores.specs.declared.bit_store.BitStore.{BitStore}
-use Rattle.runs.specs.Planner.{keeps, undoes, takes, refuses}
+use Rattle.runs.specs.Planner.{keeps, undoes, takes}
 use Rattle.runs.specs.declared.call.Call.TheVariants.{Keep, Undo}
 use Rattle.runs.specs.declared.call.Taken.TheVariants.{Done}
 use Rattle.runs.proofs.Refusals.{keep_16, keep_free, undo_16, undo_free}
@@ -16,15 +16,15 @@ use Rattle.planner.specs.States.{setting_of, state_of}
 use Rattle.planner.specs.Closing.{Taken, Stale}
 use Rattle.planner.specs.Calls.{Moved}
 use Rattle.planner.proofs.Marks.{state_same}
-use Rattle.planner.proofs.Going.{goes_on}
+use Rattle.planner.proofs.Going.{goes_on, refused}
 
 module _ {S : Type 0} (rows : S → Rows) (p : Planner S) (t : Token) where
   module _ (x : TokenRefused) (q : Planner S) (stale : Stale rows p t x q) where
     pub keep_refused : Moved rows p (Keep t.stamp t.level) (Err x.refusal) q
-    keep_refused = rw (stale.refusal, stale.same) (goes_on rows p p _ _ refl (refuses (keep_16 (setting_of p) (state_of rows p) t.stamp t.level stale.not_newest) refl))
+    keep_refused = rw (stale.refusal, stale.same) (refused rows p _ _ (keep_16 _ _ t.stamp t.level stale.not_newest))
 
     pub undo_refused : Moved rows p (Undo t.stamp t.level) (Err x.refusal) q
-    undo_refused = rw (stale.refusal, stale.same) (goes_on rows p p _ _ refl (refuses (undo_16 (setting_of p) (state_of rows p) t.stamp t.level stale.not_newest) refl))
+    undo_refused = rw (stale.refusal, stale.same) (refused rows p _ _ (undo_16 _ _ t.stamp t.level stale.not_newest))
 
   module _ (set : BitStore) (m : Planner S) (taken : Taken rows p t set m) where
     -- the table at the newest mark

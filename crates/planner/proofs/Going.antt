@@ -1,10 +1,12 @@
 -- How every history goes on with a call. Assumes nothing.
-use Rattle.std.proofs.Common.{◌≡◌, ℕ, sym, subst}
+use Rattle.std.proofs.Common.{◌≡◌, ℕ, sym, refl, subst, Err}
 use Rattle.tickets.specs.Collections.{posted}
 use Rattle.tickets.specs.declared.collection.Collection.{Collection}
 use Rattle.stores.specs.Sets.{Rows}
 use Rattle.runs.specs.Supports.{setting}
-use Rattle.runs.specs.Planner.{Answer, sealed, Means}
+use Rattle.tickets.specs.Refusals.{Answers}
+use Rattle.runs.specs.Planner.{Answer, sealed, Means, refuses, meaning, asked}
+use Rattle.tickets.specs.declared.planner_refusal.PlannerRefusal.{PlannerRefusal}
 use Rattle.runs.specs.Whole.{just_sealed, longer, Reached}
 use Rattle.runs.specs.declared.call.Call.{Call}
 use Rattle.runs.proofs.Runs.{every_run}
@@ -25,6 +27,11 @@ module _ {S : Type 0} (rows : S → Rows) where
         let there : Stands (setting_of p) (longer h c a) (state_of rows q) = record { reached = on; good = runs.good (longer h c a) (state_of rows q) on } in
         subst (λ (x : Collection). Stands (setting (posted x)) (longer h c a) (state_of rows q)) (sym same) there;
   }
+
+  -- a call that is refused leaves all as it was
+  pub refused :
+      (p : Planner S) (c : Call) (e : PlannerRefusal) → Answers (meaning (setting_of p)) (asked (state_of rows p) c) e → Moved rows p c (Err e) p
+  refused p c e why = goes_on p p c (Err e) refl (refuses why refl)
 
   pub begins :
       (c : Collection) (stamp : ℕ) (p : Planner S) → p.collection ≡ c → state_of rows p ≡ sealed (setting_of p) stamp c.ceiling →

@@ -1,12 +1,11 @@
 -- A list of cuts, word by word. Assumes nothing.
-use Rattle.std.proofs.Common.{◌≡◌, ℕ, zero, suc, ◌+◌, ◌*◌, ◌<◌, ◌≤◌, true, false, ◌≢◌, List, length, get_or, slice_index, set, sym, refl, ap, ◌∙◌, subst, ⊎_elim, add-one, arith, length-set}
+use Rattle.std.proofs.Common.{◌≡◌, ℕ, ◌+◌, ◌*◌, ◌<◌, ◌≤◌, true, false, ◌≢◌, List, length, get_or, slice_index, set, sym, refl, ap, ◌∙◌, subst, ⊎_elim, arith, length-set}
 use mathlib.Core.Path.{fun_ext}
 use Rattle.std.proofs.lemmas.List.{get_or-set_other, get_or-set_same}
 use Rattle.std.proofs.lemmas.Bool.{cases_eq, cases_lt, cases_Bool, both_ways}
 use Rattle.std.proofs.lemmas.Bool.Decides.{nat_tests}
 use Rattle.stores.specs.Sets.{Rows, Bounded, without, with, size_of}
-use Rattle.stores.proofs.Counts.{count_most, count_mono, count_none}
-use Rattle.spreads.specs.Lines.{sum_to}
+use Rattle.stores.proofs.Counts.{count_mono, count_none}
 use Rattle.spreads.proofs.Sums.{sum_le, sum_none}
 use Rattle.runs.specs.Tables.{Setting}
 use Rattle.runs.proofs.Starts.{starts_without}
@@ -97,13 +96,6 @@ listed P b old new k words = record {
 }
 
 -- ---- how many starts there are
-
-pub sum_step : (n : ℕ) (f : ℕ → ℕ) → sum_to (n + 1) f ≡ sum_to n f + f n
-sum_step n f = rw add-one refl
-
-pub sizes_most : (n : ℕ) (R : Rows) → sum_to n (λ i. size_of (R i)) ≤ 256 * n
-sizes_most zero R = omega arith
-sizes_most (suc n) R = omega (arith, sizes_most n R, count_most (R n) 256)
 
 -- 24 tickets, of which only the number counts
 abbrev rows_24 : Setting

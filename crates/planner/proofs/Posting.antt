@@ -1,5 +1,5 @@
 -- The posted rows, as a store is filled with them. Assumes nothing.
-use Rattle.std.proofs.Common.{◌≡◌, ℕ, ◌<◌, ◌≤◌, false, ◌&&◌, ◌||◌, eqb, List, length, get_or, ap, ◌∙◌, arith}
+use Rattle.std.proofs.Common.{◌≡◌, ℕ, ◌<◌, ◌≤◌, false, ◌&&◌, ◌||◌, eqb, List, length, get_or, refl, ap, ◌∙◌, arith}
 use Rattle.std.proofs.lemmas.List.{get_or_default}
 use Rattle.std.proofs.lemmas.Bool.{and_left, le-ltb, lt-ltb}
 use Rattle.std.proofs.lemmas.Bool.Decides.{nat_tests}
@@ -16,11 +16,12 @@ module _ (ts : List Ticket) where
 
   -- a row is filled from the first to the last start of its ticket
   pub posted_row :
-      (N K : Rows) (row : ℕ) (x y : Ticket) → row < length ts → K ≡ union N (range_of row (get_or ts row x).first (get_or ts row y).last) →
+      (N K : Rows) (row : ℕ) (x : Ticket) → row < length ts → x ≡ get_or ts row x → K ≡ union N (range_of row x.first x.last) →
       (i t : ℕ) → K i t ≡ (N i t || (eqb i row && posted (setting ts) row t))
-  posted_row N K row x y l k i t =
-      let is : K i t ≡ union N (range_of row (get_or ts row x).first (get_or ts row y).last) i t = ap (λ (T : Rows). T i t) k in
-      is ∙ (rw (get_or_default ts row x blank l, get_or_default ts row y blank l, lt-ltb row (length ts) l))
+  posted_row N K row x l at k i t =
+      let is : K i t ≡ union N (range_of row x.first x.last) i t = ap (λ (T : Rows). T i t) k in
+      let same : x ≡ get_or ts row blank = at ∙ get_or_default ts row x blank l in
+      is ∙ (rw (same, lt-ltb row (length ts) l) refl)
 
   -- a row that no ticket has is left empty
   pub posted_none : (N : Rows) (row : ℕ) → length ts ≤ row → (i t : ℕ) → N i t ≡ (N i t || (eqb i row && posted (setting ts) row t))

@@ -9,17 +9,14 @@ use Rattle.stores.proofs.Firsts.{earliest_least}
 use Rattle.runs.specs.Tables.{Setting, Within, Releases, starts, NoneWithin, Narrowed, Largest}
 use Rattle.runs.proofs.Tables.{Early, Laws, releases_early, within_early}
 use Rattle.runs.proofs.Starts.{starts_within, starts_without}
-use Rattle.runs.proofs.Pruning.{narrowed_none, narrowed_trans, narrowed_less, narrowed_empty, narrowed_largest}
+use Rattle.runs.proofs.Pruning.{narrowed_trans, narrowed_less, narrowed_empty, narrowed_largest}
 use Rattle.planner.specs.Sets.{Out}
 use Rattle.planner.specs.Trims.{RowTrim, LeastStart, Trim, RoundDone, Settled}
-use Rattle.planner.proofs.Walks.{out_none, out_trans}
+use Rattle.planner.proofs.Walks.{out_trans}
 
 -- ---- a round
 
 module _ (w : Setting) (ok : Laws w) (U : ℕ) where
-  pub trim_none : (R G : Rows) → Trim w U R G R G
-  trim_none R G = record { out = out_none R G; past = λ i t _. refl; narrowed = narrowed_none w U R }
-
   pub trim_trans : (R G Q H N K : Rows) → Trim w U R G Q H → Trim w U Q H N K → Trim w U R G N K
   trim_trans R G Q H N K f g = record {
     out = out_trans R G Q H N K f.out g.out;

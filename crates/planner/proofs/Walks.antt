@@ -1,10 +1,9 @@
 -- Rows that are walked start by start, and what a walk has done so far. Assumes nothing.
 use Rattle.std.proofs.Common.{◌≡◌, ℕ, ◌+◌, ◌<◌, ◌≤◌, true, false, not, ◌&&◌, ◌||◌, eqb, ltb, leb, ap, ◌∙◌, ⊎_elim, arith}
 use mathlib.Core.Path.{fun_ext}
-use Rattle.std.proofs.lemmas.Bool.{cases_eq, cases_lt}
+use Rattle.std.proofs.lemmas.Bool.{cases_eq}
 use Rattle.std.proofs.lemmas.Bool.Decides.{nat_tests}
 use Rattle.stores.specs.Sets.{Rows, Bounded, without, with}
-use Rattle.stores.proofs.Moves.{held_inside}
 use Rattle.planner.specs.Sets.{union, without_row, range_of, Out}
 
 -- ---- filling
@@ -38,16 +37,6 @@ mixed_more P R Q N K row q n k = fun_ext (λ i. fun_ext (λ t.
     (λ (same : i ≡ row). let row_is : P i t ≡ P row t = ap (λ j. P j t) same in grind (arith, nat_tests))
     (λ (other : i ≡ row → ⊥). grind (arith, nat_tests))
     (cases_eq i row)))
-
-pub mixed_all : (P R : Rows) (n : ℕ) → Bounded R → ((i t : ℕ) → 24 ≤ i → P i t ≡ false) → 24 ≤ n → mixed P R n ≡ P
-mixed_all P R n b past l = fun_ext (λ i. fun_ext (λ t.
-    ⊎_elim
-    (λ (in_row : i < n). grind (arith, nat_tests))
-    (λ (out : n ≤ i).
-    let none : P i t ≡ false = past i t (omega arith) in
-    let off : R i t ≡ false = held_inside R i t b (grind (arith, nat_tests)) in
-    grind (arith, nat_tests))
-    (cases_lt i n)))
 
 -- ---- what goes from one set into another
 

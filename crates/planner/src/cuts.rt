@@ -14,11 +14,7 @@ pub(crate) fn count_starts<S: Store>(store: &S, tickets: usize) -> usize
     requires { tickets ≤ 24 }
     ensures { result ≡ sum_to tickets (λ i. size_of (S.rows store.now i)) }
 {
-    let mut starts = 0;
-    for row in 0..tickets {
-        starts += store.size(row);
-    }
-    starts
+    (0..tickets).map(|row| store.size(row)).sum()
 }
 
 /// Lists the starts of the set, each as 256 × ticket + start, in the first words of the list.

@@ -45,7 +45,7 @@ impl<'a, S: Store> Cutting<'a, S> {
         ensures table { Retained (F.post keep) row (S.rows self.old.store.now) (S.rows self.new.store.now) }
         ensures cuts { Cuts S.rows self.old self.new }
     {
-        // No iterator over the row: it would borrow the store, which the walk changes.
+        // The start is counted by hand: an iterator over the row would borrow the store, which the walk changes.
         let mut next = 0;
         while let Some(start) = self.store.after(row, next) {
             if !keep(start) {

@@ -15,12 +15,12 @@ fn empty_row<S: Store>(store: &mut S, row: usize)
     Cutting::of(store).retain(row, |_| false);
 }
 
-/// Puts the starts from `first` to `last` into a row.
-fn fill_row<S: Store>(store: &mut S, row: usize, first: u8, last: u8)
-    requires { (row < 24) × (first ≤ last) }
-    ensures { S.rows store.new ≡ union (S.rows store.old) (range_of row first last) }
+/// Puts the ticket's first to last start into a row.
+fn fill_row<S: Store>(store: &mut S, row: usize, ticket: &Ticket)
+    requires { row < 24 }
+    ensures { S.rows store.new ≡ union (S.rows store.old) (range_of row ticket.now.first ticket.now.last) }
 {
-    for start in first as usize..last as usize + 1 {
+    for start in usize::from(ticket.first)..=usize::from(ticket.last) {
         let _ = store.put_back(row, start);
     }
 }
@@ -32,8 +32,8 @@ pub(crate) fn fill<S: Store>(store: &mut S, tickets: &[Ticket])
 {
     for row in 0..ROWS {
         empty_row(store, row);
-        if row < tickets.len() {
-            fill_row(store, row, tickets[row].first, tickets[row].last);
+        if let Some(ticket) = tickets.get(row) {
+            fill_row(store, row, ticket);
         }
     }
 }

@@ -6,11 +6,12 @@ ghost use Rattle.planner.specs.Sets.{union};
 ghost use Rattle.planner.specs.Levels.{at_marks};
 
 use crate::sets::pour;
+use crate::state::MOST_LEVELS;
 use arrayvec::ArrayVec;
 use stores::BitStore;
 
 /// Notes in the newest level what was taken out; nothing where no level is open.
-pub(crate) fn note(levels: &mut ArrayVec<BitStore, 32>, gone: &BitStore)
+pub(crate) fn note(levels: &mut ArrayVec<BitStore, MOST_LEVELS>, gone: &BitStore)
     ensures { (R : Rows) → at_marks R (reverse levels.new.items) ≡ at_marks (union R (bit_rows gone.now)) (reverse levels.old.items) }
 {
     if let Some(newest) = levels.last_mut() {

@@ -12,6 +12,7 @@ impl<S: Store> Planner<S> {
     ///
     /// The list is enough if it has a word for each start that stands, less one for each ticket. A cut is listed as
     /// 256 × ticket + start.
+    // The list is lent, and the number of its words is answered: nothing may allocate.
     pub fn prune(&mut self, cuts: &mut [u16]) -> Result<usize, PlannerRefusal>
         ensures { Pruned S.rows self.old cuts.old result self.new cuts.new }
     {

@@ -43,6 +43,7 @@ impl<'a, S: Store> Iterator for Starts<'a, S> {
     ghost remaining = { λ s. at_most (6144 - place s) };
 
     fn next(&mut self) -> Option<(usize, usize)> {
+        // The row is counted by hand: it is the walk's own state, and a `for` over the rows would have to write it back.
         while self.row < ROWS {
             if let Some(start) = self.store.after(self.row, self.next) {
                 self.next = start + 1;

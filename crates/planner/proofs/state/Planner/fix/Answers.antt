@@ -1,27 +1,21 @@
 use Rattle.std.proofs.Common.{◌≡◌, eqb, length, sym, refl, ap, ◌∙◌, arith, rules}
-use Rattle.runs.specs.Planner.{fixes, takes, refuses}
+use Rattle.runs.specs.Planner.{fixes, takes}
 use Rattle.runs.proofs.Refusals.{fix_11, fix_12, fix_free}
 use Rattle.runs.specs.Orders.{fixed}
 use Rattle.planner.specs.Cuttings.{Retained}
 use Rattle.planner.proofs.Retaining.{retained_as, retained_fixed}
 use Rattle.planner.specs.States.{setting_of, state_of}
 use Rattle.planner.proofs.Marks.{state_same, marks_cut}
-use Rattle.planner.proofs.Going.{goes_on}
+use Rattle.planner.proofs.Going.{goes_on, refused}
 use Rattle.planner.proofs.state.Planner.fix.Goals as goal
 
 pub returns-then-ticket-tickets : goal.returns-then-ticket-tickets
 returns-then-ticket-tickets g c =
-    let R = g.S.Store.rows in
-    let p = c.args.self.now in
-    goes_on R p p _ _ refl (refuses (fix_11 (setting_of p) (state_of R p) c.args.ticket c.args.start (omega (arith, ap length c.tickets.ensures))) refl)
+    refused g.S.Store.rows c.args.self.now _ _ (fix_11 _ _ c.args.ticket c.args.start (omega (arith, ap length c.tickets.ensures)))
 
 pub returns-then-not-holds : goal.returns-then-not-holds
 returns-then-not-holds g c =
-    let R = g.S.Store.rows in
-    let p = c.args.self.now in
-    goes_on R p p _ _ refl (refuses
-    (fix_12 (setting_of p) (state_of R p) c.args.ticket c.args.start (omega (arith, ap length c.tickets.ensures)) (sym c.if-not-holds.ensures))
-    refl)
+    refused g.S.Store.rows c.args.self.now _ _ (fix_12 _ _ c.args.ticket c.args.start (omega (arith, ap length c.tickets.ensures)) (sym c.if-not-holds.ensures))
 
 pub returns : goal.returns
 returns g c =

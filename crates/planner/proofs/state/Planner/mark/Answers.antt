@@ -1,11 +1,11 @@
 use Rattle.std.proofs.Common.{reverse, ap, ◌∙◌, refl, arith}
 use Rattle.std.proofs.lemmas.Bool.Decides.{nat_tests}
-use Rattle.runs.specs.Planner.{marks, takes, refuses}
+use Rattle.runs.specs.Planner.{marks, takes}
 use Rattle.runs.proofs.Refusals.{mark_15, mark_free}
 use Rattle.planner.specs.Levels.{at_marks}
 use Rattle.planner.specs.States.{setting_of, state_of}
 use Rattle.planner.proofs.Marks.{state_same, levels_many, marks_opened}
-use Rattle.planner.proofs.Going.{goes_on}
+use Rattle.planner.proofs.Going.{goes_on, refused}
 use Rattle.planner.proofs.state.Planner.mark.Goals as goal
 
 pub returns-then-is_full : goal.returns-then-is_full
@@ -13,7 +13,7 @@ returns-then-is_full g c =
     let R = g.S.Store.rows in
     let p = c.args.self.now in
     let full = c.if-is_full.ensures.value in
-    goes_on R p p _ _ refl (refuses (mark_15 (setting_of p) (state_of R p) (grind (arith, nat_tests, levels_many (R p.store) p.levels.items))) refl)
+    refused R p _ _ (mark_15 _ _ (grind (arith, nat_tests, levels_many (R p.store) p.levels.items)))
 
 pub returns : goal.returns
 returns g c =
