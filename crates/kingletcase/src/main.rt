@@ -5,9 +5,10 @@
 use day::Fault;
 use std::io::Read;
 use std::process::ExitCode;
+use ticket_file::reading::LONGEST_FILE;
 
 /// One byte more than the longest file, so that a longer one is told from it.
-const ENOUGH_BYTES: u64 = 32769;
+const ENOUGH_BYTES: u64 = LONGEST_FILE as u64 + 1;
 
 /// Reads the file, prints the report, and answers the fault.
 fn print_report(rt: &HostRuntime) -> anyhow::Result<Option<Fault>> {

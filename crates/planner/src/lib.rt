@@ -2,8 +2,8 @@
 //!
 //! Sealing a collection of tickets gives a planner, which keeps for each ticket the starts that are still possible
 //! under a cost ceiling. `ban`, `fix` and `lower` are orders; `mark`, `keep` and `undo` open and close levels; `prune` cuts
-//! the starts that no self-supporting table has. No
-//! call asks anything of its caller: what cannot be done is refused with a number, and all is then as it was.
+//! the starts that no self-supporting table has. No call asks anything of its caller: what cannot be done is refused with
+//! a number, and all is then as it was.
 
 #![tactic(auto)]
 

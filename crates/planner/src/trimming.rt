@@ -28,6 +28,8 @@ impl Support<'_> {
         requires { (ticket < length (posted self.now.released.collection.now)) × (start ≤ 255) }
         ensures { Tells result (Supports (posted self.now.released.collection.now) (release self.now.released.releases) ticket start self.now.ceiling) }
     {
+        // The ticket is one of the collection's and the start is at most 255, so nothing is refused. A closure for `is_ok_and` was
+        // tried: it left open that the product fits.
         let Ok(price) = self.released.pinned_price(ticket, start) else {
             unreachable()
         };

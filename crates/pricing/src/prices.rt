@@ -27,6 +27,7 @@ pub struct Released<'a> {
 fn first_start(tickets: &[Ticket], number: usize) -> u8
     ensures { result ≡ start_of tickets.now number }
 {
+    // A number and not an `Option`: all 24 places of the releases are filled, and those past the tickets have no meaning.
     tickets.get(number).map_or(0, |ticket| ticket.first)
 }
 

@@ -54,6 +54,7 @@ impl<'a, S: Store> Table<'a, S> {
     pub fn floor(&self) -> u64
         ensures { FloorAnswer (posted self.now.collection.now) (S.rows self.now.store.now) result }
     {
+        // A number and not an `Option`: 0 is what the floor of such a table is.
         self.released().map_or(0, |released| released.floor())
     }
 }
