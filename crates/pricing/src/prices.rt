@@ -20,6 +20,7 @@ pub const PRICE_OF_ONE: u64 = 720720;
 #[derive(Clone, Copy)]
 pub struct Released<'a> {
     pub collection: &'a Collection,
+    // No vector: with 24 places every value is valid, and no caller owes a bound on the length.
     pub releases: [u8; 24],
 }
 

@@ -1,3 +1,5 @@
+// Calls are data and not closures: each is made of two stores, and a list of closures would be boxed.
+
 /// A call of a store, with its row and its start.
 #[derive(Clone, Copy)]
 pub(crate) enum Call {
