@@ -1,11 +1,11 @@
 -- What keep and undo come to, by what became of the token. Assumes nothing.
-use Rattle.std.proofs.Common.{◌≡◌, ◌∷◌, reverse, refl, ap, ◌∙◌}
+use Rattle.std.proofs.Common.{◌≡◌, ◌∷◌, reverse, Ok, Err, refl, ap, ◌∙◌}
 use Rattle.stores.specs.Sets.{Rows}
 use Rattle.stores.specs.BitRows.{bit_rows}
 use Rattle.stores.specs.declared.bit_store.BitStore.{BitStore}
 use Rattle.runs.specs.Planner.{keeps, undoes, takes}
 use Rattle.runs.specs.declared.call.Call.TheVariants.{Keep, Undo}
-use Rattle.runs.specs.declared.call.Answer.TheVariants.{Done, Refused}
+use Rattle.runs.specs.declared.call.Taken.TheVariants.{Done}
 use Rattle.runs.proofs.Refusals.{keep_16, keep_free, undo_16, undo_free}
 use Rattle.planner.specs.declared.state.Planner.{Planner}
 use Rattle.planner.specs.declared.token.Token.{Token}
@@ -20,10 +20,10 @@ use Rattle.planner.proofs.Going.{goes_on, refused}
 
 module _ {S : Type 0} (rows : S → Rows) (p : Planner S) (t : Token) where
   module _ (x : TokenRefused) (q : Planner S) (stale : Stale rows p t x q) where
-    pub keep_refused : Moved rows p (Keep t.stamp t.level) (Refused x.refusal) q
+    pub keep_refused : Moved rows p (Keep t.stamp t.level) (Err x.refusal) q
     keep_refused = rw (stale.refusal, stale.same) (refused rows p _ _ (keep_16 _ _ t.stamp t.level stale.not_newest))
 
-    pub undo_refused : Moved rows p (Undo t.stamp t.level) (Refused x.refusal) q
+    pub undo_refused : Moved rows p (Undo t.stamp t.level) (Err x.refusal) q
     undo_refused = rw (stale.refusal, stale.same) (refused rows p _ _ (undo_16 _ _ t.stamp t.level stale.not_newest))
 
   module _ (set : BitStore) (m : Planner S) (taken : Taken rows p t set m) where
@@ -37,7 +37,7 @@ module _ {S : Type 0} (rows : S → Rows) (p : Planner S) (t : Token) where
     -- the set was joined to the next level's
     pub kept :
         (q : Planner S) → q.collection ≡ m.collection → q.store ≡ m.store → q.ceiling ≡ m.ceiling → q.stamp ≡ m.stamp →
-        at_marks (rows p.store) (reverse q.levels.items) ≡ at_marks A (reverse m.levels.items) → Moved rows p (Keep t.stamp t.level) Done q
+        at_marks (rows p.store) (reverse q.levels.items) ≡ at_marks A (reverse m.levels.items) → Moved rows p (Keep t.stamp t.level) (Ok Done) q
     kept q collection store ceiling stamp joined =
         let table : rows q.store ≡ rows p.store = ap rows (store ∙ taken.store) in
         goes_on rows p q _ _ (collection ∙ taken.collection) (takes
@@ -48,7 +48,7 @@ module _ {S : Type 0} (rows : S → Rows) (p : Planner S) (t : Token) where
     -- the set was put back
     pub undone :
         (q : Planner S) → q.collection ≡ m.collection → rows q.store ≡ union (rows m.store) (bit_rows set) → q.ceiling ≡ m.ceiling → q.stamp ≡ m.stamp →
-        q.levels ≡ m.levels → Moved rows p (Undo t.stamp t.level) Done q
+        q.levels ≡ m.levels → Moved rows p (Undo t.stamp t.level) (Ok Done) q
     undone q collection store ceiling stamp levels =
         let table : rows q.store ≡ A = store ∙ ap (λ (s : S). union (rows s) (bit_rows set)) taken.store in
         goes_on rows p q _ _ (collection ∙ taken.collection) (takes

@@ -1,16 +1,14 @@
 -- How every history goes on with a call. Assumes nothing.
-use Rattle.std.proofs.Common.{◌≡◌, ℕ, sym, refl, subst}
+use Rattle.std.proofs.Common.{◌≡◌, ℕ, Err, sym, refl, subst}
 use Rattle.tickets.specs.Collections.{posted}
 use Rattle.tickets.specs.declared.collection.Collection.{Collection}
 use Rattle.stores.specs.Sets.{Rows}
 use Rattle.runs.specs.Supports.{setting}
 use Rattle.tickets.specs.Refusals.{Answers}
-use Rattle.runs.specs.Planner.{sealed, Means, refuses, meaning, asked}
+use Rattle.runs.specs.Planner.{Answer, sealed, Means, refuses, meaning, asked}
 use Rattle.tickets.specs.declared.planner_refusal.PlannerRefusal.{PlannerRefusal}
-use Rattle.runs.specs.declared.call.Answer.TheVariants.{Refused}
 use Rattle.runs.specs.Whole.{just_sealed, longer, Reached}
 use Rattle.runs.specs.declared.call.Call.{Call}
-use Rattle.runs.specs.declared.call.Answer.{Answer}
 use Rattle.runs.proofs.Runs.{every_run}
 use Rattle.planner.specs.declared.state.Planner.{Planner}
 use Rattle.planner.specs.States.{setting_of, state_of}
@@ -32,8 +30,8 @@ module _ {S : Type 0} (rows : S → Rows) where
 
   -- a call that is refused leaves all as it was
   pub refused :
-      (p : Planner S) (c : Call) (e : PlannerRefusal) → Answers (meaning (setting_of p)) (asked (state_of rows p) c) e → Moved rows p c (Refused e) p
-  refused p c e why = goes_on p p c (Refused e) refl (refuses why refl)
+      (p : Planner S) (c : Call) (e : PlannerRefusal) → Answers (meaning (setting_of p)) (asked (state_of rows p) c) e → Moved rows p c (Err e) p
+  refused p c e why = goes_on p p c (Err e) refl (refuses why refl)
 
   pub begins :
       (c : Collection) (stamp : ℕ) (p : Planner S) → p.collection ≡ c → state_of rows p ≡ sealed (setting_of p) stamp c.ceiling →

@@ -3,10 +3,9 @@ use Rattle.std.specs.Prelude.{◌≡◌, ℕ}
 use Rattle.tickets.specs.declared.collection.Collection.{Collection}
 use Rattle.stores.specs.Sets.{Rows}
 use Rattle.runs.specs.Tables.{Setting}
-use Rattle.runs.specs.Planner.{State, sealed, Means}
+use Rattle.runs.specs.Planner.{Answer, State, sealed, Means}
 use Rattle.runs.specs.Whole.{History, just_sealed, longer, Reached, told, Good}
 use Rattle.runs.specs.declared.call.Call.{Call}
-use Rattle.runs.specs.declared.call.Answer.{Answer}
 use Rattle.planner.specs.declared.state.Planner.{Planner}
 use Rattle.planner.specs.States.{setting_of, state_of}
 

@@ -3,19 +3,18 @@ use Rattle.std.specs.Prelude.{◌≡◌, ℕ, ◌+◌, ◌*◌, ◌<◌, ◌≤�
 use Rattle.tickets.specs.declared.planner_refusal.PlannerRefusal.{PlannerRefusal}
 use Rattle.stores.specs.Sets.{Rows}
 use Rattle.runs.specs.Tables.{Setting}
-use Rattle.runs.specs.Planner.{State}
+use Rattle.runs.specs.Planner.{Answer, State}
 use Rattle.runs.specs.Whole.{History, Reached, Right}
 use Rattle.runs.specs.declared.call.Call.TheVariants.{Prune}
-use Rattle.runs.specs.declared.call.Answer.{Answer}
-use Rattle.runs.specs.declared.call.Answer.TheVariants.{Cut, Refused}
+use Rattle.runs.specs.declared.call.Taken.TheVariants.{Cut}
 use Rattle.planner.specs.declared.state.Planner.{Planner}
 use Rattle.planner.specs.States.{setting_of, state_of}
 use Rattle.planner.specs.Calls.{Moved}
 
 -- what prune answered
 abbrev pub pruned : Result ℕ PlannerRefusal → Answer
-pruned (Ok k) = Cut k
-pruned (Err e) = Refused e
+pruned (Ok k) = Ok (Cut k)
+pruned (Err e) = Err e
 
 -- the cuts: the starts that stand in S, before the call, and not in S', after it
 abbrev pub cuts_of : Rows → Rows → Rows

@@ -5,9 +5,8 @@ use Rattle.tickets.specs.declared.planner_refusal.PlannerRefusal.{PlannerRefusal
 use Rattle.stores.specs.Sets.{Rows}
 use Rattle.runs.specs.Tables.{Setting}
 use Rattle.runs.specs.Supports.{setting}
-use Rattle.runs.specs.Planner.{State}
-use Rattle.runs.specs.declared.call.Answer.{Answer}
-use Rattle.runs.specs.declared.call.Answer.TheVariants.{Done, Marked, Refused}
+use Rattle.runs.specs.Planner.{Answer, State}
+use Rattle.runs.specs.declared.call.Taken.TheVariants.{Done, Marked}
 use Rattle.planner.specs.declared.state.Planner.{Planner}
 use Rattle.planner.specs.declared.token.Token.{Token}
 use Rattle.planner.specs.declared.token.TokenRefused.{TokenRefused}
@@ -23,18 +22,18 @@ state_of rows p = record { standing = rows p.store; ceiling = p.ceiling; levels 
 
 -- what ban, fix and lower answered
 abbrev pub done : Result Unit PlannerRefusal → Answer
-done (Ok _) = Done
-done (Err e) = Refused e
+done (Ok _) = Ok Done
+done (Err e) = Err e
 
 -- what mark answered
 abbrev pub opened : Result Token PlannerRefusal → Answer
-opened (Ok t) = Marked t.stamp t.level
-opened (Err e) = Refused e
+opened (Ok t) = Ok (Marked t.stamp t.level)
+opened (Err e) = Err e
 
 -- what keep and undo answered
 abbrev pub closed : Result Unit TokenRefused → Answer
-closed (Ok _) = Done
-closed (Err x) = Refused x.refusal
+closed (Ok _) = Ok Done
+closed (Err x) = Err x.refusal
 
 -- a token that was refused is handed back as it was
 abbrev pub HandedBack : Token → Result Unit TokenRefused → Type 0

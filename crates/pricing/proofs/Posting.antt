@@ -11,7 +11,7 @@ use Rattle.tickets.specs.Collections.{posted}
 use Rattle.pricing.specs.Prices.{start_of, first_starts}
 
 pub few_posted : (c : Collection) → length (posted c) ≤ 24
-few_posted c = omega (arith, length-take {A = Ticket})
+few_posted c = c.few
 
 -- what an array of the answers of a closure has, where a call leaves the closure as it is
 from_fn_at : {F B : Type 0} (g : Mut F (ℕ × Unit {0}) B) (f : F) (h : ℕ → B) → ((i : ℕ) (y : B) (q : F) → Called g f (i, tt) y q → (y ≡ h i) × (q ≡ f))

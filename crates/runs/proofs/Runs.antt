@@ -1,14 +1,13 @@
 -- Every history, and a prune after it. Assumes nothing.
-use Rattle.std.proofs.Common.{◌≡◌, ℕ, ◌≤◌, ◌↔◌, List, [], ◌∷◌, map, sym, refl, ap, subst, ⊎_elim, arith}
+use Rattle.std.proofs.Common.{◌≡◌, ℕ, ◌≤◌, ◌↔◌, List, [], ◌∷◌, map, sym, refl, ap, subst, ⊎_elim, arith, Ok, Err}
 use Rattle.runs.specs.Tables.{Setting, NoneWithin}
 use Rattle.runs.specs.Ledger.{Ledger, orders_table, entered, ledger}
-use Rattle.runs.specs.Planner.{State, words, Means, taken}
+use Rattle.runs.specs.Planner.{Answer, State, words, Means, taken}
 use Rattle.runs.specs.Whole.{Event, History, longer, Leads, Reached, heard, told, PruneAnswers, Right, WholeRuns, EveryRun}
 use Rattle.runs.specs.Supports.{setting}
 use Rattle.runs.specs.declared.call.Call.{Call}
 use Rattle.runs.specs.declared.call.Call.TheVariants.{Prune}
-use Rattle.runs.specs.declared.call.Answer.{Answer}
-use Rattle.runs.specs.declared.call.Answer.TheVariants.{Done, Marked, Cut, Refused}
+use Rattle.runs.specs.declared.call.Taken.TheVariants.{Done, Marked, Cut}
 use Rattle.tickets.specs.declared.planner_refusal.PlannerRefusal.TheVariants.{Hopeless}
 use Rattle.runs.proofs.Tables.{Laws}
 use Rattle.runs.proofs.Supports.{laws}
@@ -17,24 +16,22 @@ use Rattle.runs.proofs.Steps.{Kept, kept_means, kept_sealed, kept_good, kept_pru
 
 -- a prune notes nothing
 prune_noted : (room : ℕ) (a : Answer) (L : Ledger) → entered (Prune room) (taken a) L ≡ L
-prune_noted room Done L = refl
-prune_noted room (Marked stamp level) L = refl
-prune_noted room (Cut k) L = refl
-prune_noted room (Refused e) L = refl
+prune_noted room (Ok _) L = refl
+prune_noted room (Err _) L = refl
 
 module _ (w : Setting) where
-  cut_not_refused : (k : ℕ) → ◌≡◌ {A = Answer} (Cut k) (Refused Hopeless) → ⊥
+  cut_not_refused : (k : ℕ) → ◌≡◌ {A = Answer} (Ok (Cut k)) (Err Hopeless) → ⊥
   cut_not_refused k e = let x : ◌≡◌ {A = ℕ} 0 1 = cc in omega arith
 
   -- what is answered where the list is enough
   pub exactly_hopeless :
       (L : Ledger) (room : ℕ) (s s' : State) (a : Answer) → PruneAnswers w L room s a s' → words w s ≤ room →
-      (a ≡ Refused Hopeless) ↔ NoneWithin w L.ceiling (orders_table w L)
-  exactly_hopeless L room s s' Done h enough = absurd h
-  exactly_hopeless L room s s' (Marked stamp level) h enough = absurd h
-  exactly_hopeless L room s s' (Cut k) h enough = (λ e. absurd (cut_not_refused k e), λ none. absurd (none s'.standing h.1.itself h.1.within))
-  exactly_hopeless L room s s' (Refused e) h enough =
-      ⊎_elim (λ u. absurd (omega (arith, u.1))) (λ u. (λ _. u.2, λ _. ap Refused u.0)) h.1
+      (a ≡ Err Hopeless) ↔ NoneWithin w L.ceiling (orders_table w L)
+  exactly_hopeless L room s s' (Ok Done) h enough = absurd h
+  exactly_hopeless L room s s' (Ok (Marked stamp level)) h enough = absurd h
+  exactly_hopeless L room s s' (Ok (Cut k)) h enough = (λ e. absurd (cut_not_refused k e), λ none. absurd (none s'.standing h.1.itself h.1.within))
+  exactly_hopeless L room s s' (Err e) h enough =
+      ⊎_elim (λ u. absurd (omega (arith, u.1))) (λ u. (λ _. u.2, λ _. ap Err u.0)) h.1
 
   pub onward : (h : History) (s s' : State) (c : Call) (a : Answer) → Reached w h s → Means w s c a s' → Reached w (longer h c a) s'
   onward h s s' c a r m = (s, r, m)

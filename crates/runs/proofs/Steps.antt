@@ -1,14 +1,13 @@
 -- The one invariant of every run, and that each call keeps it. Assumes nothing.
-use Rattle.std.proofs.Common.{◌≡◌, ℕ, suc, ◌≤◌, true, ◌↔◌, List, [], ◌∷◌, ◌++◌, length, sym, refl, ap, subst, inl, inr, ⊎_elim, append_assoc, le_of_lt}
+use Rattle.std.proofs.Common.{◌≡◌, ℕ, suc, ◌≤◌, true, ◌↔◌, List, [], ◌∷◌, ◌++◌, length, sym, refl, ap, subst, inl, inr, ⊎_elim, append_assoc, le_of_lt, Ok, Err}
 use Rattle.tickets.specs.Refusals.{Clear}
 use Rattle.runs.specs.Tables.{Table, Plan, Setting, Within, Full, PastEmpty, SelfSupporting, NoneWithin, Largest, Affordable}
 use Rattle.runs.specs.Orders.{Order, ban, fix, less, ordered}
 use Rattle.runs.specs.Ledger.{Ledger, opened, together, in_force, orders_table, write, join, drop, noted, entered}
-use Rattle.runs.specs.Planner.{State, sealed, with_table, with_levels, asked, meaning, Takes, bans, fixes, lowers, marks, keeps, undoes, prunes, Means, takes, refuses, taken}
+use Rattle.runs.specs.Planner.{Answer, State, sealed, with_table, with_levels, asked, meaning, Takes, bans, fixes, lowers, marks, keeps, undoes, prunes, Means, takes, refuses, taken}
 use Rattle.runs.specs.Whole.{Good, PruneAnswers}
 use Rattle.runs.specs.declared.call.Call.{Call}
 use Rattle.runs.specs.declared.call.Call.TheVariants.{Prune}
-use Rattle.runs.specs.declared.call.Answer.{Answer}
 use Rattle.runs.proofs.Tables.{Laws, one, within_trans, within_past, within_full, posted_past, posted_full, one_held, one_within, one_self, self_up}
 use Rattle.runs.proofs.Orders.{less_within, less_both, ordered_within, ban_full, fix_full}
 use Rattle.runs.proofs.Refusals.{ban_stands, ban_several, fix_stands, lower_less, prune_enough, prune_by}

@@ -1,12 +1,11 @@
 -- What a token needs: which calls leave the levels alone. Assumes nothing.
-use Rattle.std.proofs.Common.{◌≡◌, ℕ, Bool, true, false, List, [], ◌∷◌, length, sym, refl, ap, ◌∙◌, arith}
+use Rattle.std.proofs.Common.{◌≡◌, ℕ, Bool, true, false, List, [], ◌∷◌, length, sym, refl, ap, ◌∙◌, arith, Ok, Err}
 use Rattle.std.proofs.lemmas.Bool.{false≢true}
 use Rattle.runs.specs.Tables.{Table, Setting}
-use Rattle.runs.specs.Planner.{State, Newest, Meets, keep_stale, undo_stale, Takes, bans, fixes, lowers, marks, keeps, undoes, prunes, Means, takes, refuses}
+use Rattle.runs.specs.Planner.{Answer, State, Newest, Meets, keep_stale, undo_stale, Takes, bans, fixes, lowers, marks, keeps, undoes, prunes, Means, takes, refuses}
 use Rattle.runs.specs.declared.call.Call.{Call}
 use Rattle.runs.specs.declared.call.Call.TheVariants.{Ban, Fix, Lower, Mark, Keep, Undo, Prune}
-use Rattle.runs.specs.declared.call.Answer.{Answer}
-use Rattle.runs.specs.declared.call.Answer.TheVariants.{Marked, Refused}
+use Rattle.runs.specs.declared.call.Taken.TheVariants.{Marked}
 use Rattle.tickets.specs.declared.planner_refusal.PlannerRefusal.{PlannerRefusal}
 
 -- a token of the newest level has an open level
@@ -53,7 +52,7 @@ module _ (w : Setting) (s s' : State) where
   means_levels c a h (refuses _ e) = same_state s s' s e (refl, refl)
 
   -- a mark's token is of the newest level
-  pub marked_newest : (stamp level : ℕ) → Means w s Mark (Marked stamp level) s' → Newest s' stamp level
+  pub marked_newest : (stamp level : ℕ) → Means w s Mark (Ok (Marked stamp level)) s' → Newest s' stamp level
   marked_newest stamp level (takes _ (marks own top e)) =
       record { own = own ∙ ap (λ x. x.stamp) (sym e); some = omega (arith, top); top = omega (arith, top, ap (λ x. length x.levels) e) }
 
@@ -64,10 +63,10 @@ module _ (w : Setting) (s s' : State) where
   stale_undo : (stamp level : ℕ) (e : PlannerRefusal) → Meets w s e (Undo stamp level) → Newest s stamp level → ⊥
   stale_undo stamp level e (undo_stale h) n = h n
 
-  pub keep_taken : (stamp level : ℕ) (e : PlannerRefusal) → Newest s stamp level → Means w s (Keep stamp level) (Refused e) s' → ⊥
+  pub keep_taken : (stamp level : ℕ) (e : PlannerRefusal) → Newest s stamp level → Means w s (Keep stamp level) (Err e) s' → ⊥
   keep_taken stamp level e n (takes _ t) = elim t [ ]
   keep_taken stamp level e n (refuses a _) = stale_keep stamp level e a.meets n
 
-  pub undo_taken : (stamp level : ℕ) (e : PlannerRefusal) → Newest s stamp level → Means w s (Undo stamp level) (Refused e) s' → ⊥
+  pub undo_taken : (stamp level : ℕ) (e : PlannerRefusal) → Newest s stamp level → Means w s (Undo stamp level) (Err e) s' → ⊥
   undo_taken stamp level e n (takes _ t) = elim t [ ]
   undo_taken stamp level e n (refuses a _) = stale_undo stamp level e a.meets n

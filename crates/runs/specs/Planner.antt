@@ -1,5 +1,5 @@
 -- A planner's state, when each call is refused, and what it does when it is taken. Assumes nothing.
-use Rattle.std.specs.Prelude.{◌≡◌, ℕ, ◌+◌, ◌-◌, ◌<◌, ◌≤◌, Bool, true, false, List, [], ◌∷◌, length}
+use Rattle.std.specs.Prelude.{◌≡◌, ℕ, ◌+◌, ◌-◌, ◌<◌, ◌≤◌, Bool, true, false, List, [], ◌∷◌, length, Ok, Err, Result}
 use Rattle.tickets.specs.Refusals.{Meaning, Answers, Clear}
 use Rattle.stores.specs.Sets.{size_of}
 use Rattle.tickets.specs.Planner.{number_of}
@@ -7,8 +7,8 @@ use Rattle.runs.specs.Tables.{Table, Setting, posted, starts, NoneWithin, Larges
 use Rattle.runs.specs.Orders.{ban, fix, less}
 use Rattle.runs.specs.declared.call.Call.{Call}
 use Rattle.runs.specs.declared.call.Call.TheVariants.{Ban, Fix, Lower, Mark, Keep, Undo, Prune}
-use Rattle.runs.specs.declared.call.Answer.{Answer}
-use Rattle.runs.specs.declared.call.Answer.TheVariants.{Done, Marked, Cut, Refused}
+use Rattle.runs.specs.declared.call.Taken.{Taken}
+use Rattle.runs.specs.declared.call.Taken.TheVariants.{Done, Marked, Cut}
 use Rattle.tickets.specs.declared.planner_refusal.PlannerRefusal.{PlannerRefusal}
 use Rattle.tickets.specs.declared.planner_refusal.PlannerRefusal.TheVariants.{NoSuchTicket, NoSuchStart, OnlyStart, CeilingNotLower, TooManyLevels, StaleToken, TooShort, Hopeless}
 
@@ -78,37 +78,39 @@ asked s c = record { state = s; call = c }
 abbrev pub meaning : Setting → PlannerRefusal → Meaning Asked
 meaning w e = record { number = number_of e; meets = λ a. Meets w a.state e a.call }
 
+-- what became of a call: what it tells where it was taken, or why it was refused
+abbrev pub Answer : Type 0
+Answer = Result Taken PlannerRefusal
+
 -- what a call that is taken in the state s answers, and the state s' that it leaves
 pub data Takes (w : Setting) (s : State) : Call → Answer → State → Type 0 where
   -- ban takes the start out of the row, fix all others
-  bans : {i t : ℕ} {s' : State} → s' ≡ with_table s (less (ban i t) s.standing) → Takes w s (Ban i t) Done s'
-  fixes : {i t : ℕ} {s' : State} → s' ≡ with_table s (less (fix i t) s.standing) → Takes w s (Fix i t) Done s'
+  bans : {i t : ℕ} {s' : State} → s' ≡ with_table s (less (ban i t) s.standing) → Takes w s (Ban i t) (Ok Done) s'
+  fixes : {i t : ℕ} {s' : State} → s' ≡ with_table s (less (fix i t) s.standing) → Takes w s (Fix i t) (Ok Done) s'
   -- lower sets the ceiling
-  lowers : {u : ℕ} {s' : State} → s' ≡ with_ceiling s u → Takes w s (Lower u) Done s'
+  lowers : {u : ℕ} {s' : State} → s' ≡ with_ceiling s u → Takes w s (Lower u) (Ok Done) s'
   -- mark opens a level, and answers its token
   marks :
       {stamp level : ℕ} {s' : State} → stamp ≡ s.stamp → level ≡ length s.levels + 1 → s' ≡ with_levels s (s.standing ∷ s.levels) →
-      Takes w s Mark (Marked stamp level) s'
+      Takes w s Mark (Ok (Marked stamp level)) s'
   -- keep closes the newest level; undo does, and goes back to the table at its mark
   keeps :
       {stamp level : ℕ} {s' : State} (A : Table) (As : List Table) → s.levels ≡ A ∷ As → s' ≡ with_levels s As →
-      Takes w s (Keep stamp level) Done s'
+      Takes w s (Keep stamp level) (Ok Done) s'
   undoes :
       {stamp level : ℕ} {s' : State} (A : Table) (As : List Table) → s.levels ≡ A ∷ As → s' ≡ with_table (with_levels s As) A →
-      Takes w s (Undo stamp level) Done s'
+      Takes w s (Undo stamp level) (Ok Done) s'
   -- prune leaves the largest self-supporting table, and answers how many starts fewer there are
   prunes :
       {room k : ℕ} {s' : State} (L : Table) → Largest w s.ceiling s.standing L → starts w s.standing ≡ starts w L + k →
-      s' ≡ with_table s L → Takes w s (Prune room) (Cut k) s'
+      s' ≡ with_table s L → Takes w s (Prune room) (Ok (Cut k)) s'
 
 -- what a call means in the state s: where it meets no refusal it is taken; else the first by number is the answer, and all is as before
 pub data Means (w : Setting) (s : State) (c : Call) : Answer → State → Type 0 where
   takes : {a : Answer} {s' : State} → Clear (meaning w) (asked s c) → Takes w s c a s' → Means w s c a s'
-  refuses : {e : PlannerRefusal} {s' : State} → Answers (meaning w) (asked s c) e → s' ≡ s → Means w s c (Refused e) s'
+  refuses : {e : PlannerRefusal} {s' : State} → Answers (meaning w) (asked s c) e → s' ≡ s → Means w s c (Err e) s'
 
 -- whether the answer says that the call was taken
 abbrev pub taken : Answer → Bool
-taken Done = true
-taken (Marked stamp level) = true
-taken (Cut k) = true
-taken (Refused e) = false
+taken (Ok _) = true
+taken (Err _) = false

@@ -1,14 +1,13 @@
 -- What holds after every history of calls, and of a prune there. Assumes nothing.
-use Rattle.std.specs.Prelude.{◌≡◌, ℕ, ◌+◌, ◌<◌, ◌≤◌, ◌⊎◌, ◌↔◌, List, [], ◌∷◌, map, length}
+use Rattle.std.specs.Prelude.{◌≡◌, ℕ, ◌+◌, ◌<◌, ◌≤◌, ◌⊎◌, ◌↔◌, List, [], ◌∷◌, map, length, Ok, Err}
 use Rattle.tickets.specs.declared.ticket.Ticket.{Ticket}
 use Rattle.runs.specs.Tables.{Table, Plan, Setting, Full, PastEmpty, starts, NoneWithin, Largest, Affordable}
 use Rattle.runs.specs.Supports.{setting}
-use Rattle.runs.specs.Planner.{State, sealed, Newest, words, Means, taken}
+use Rattle.runs.specs.Planner.{Answer, State, sealed, Newest, words, Means, taken}
 use Rattle.runs.specs.Ledger.{Ledger, orders_table, Heard, ledger}
 use Rattle.runs.specs.declared.call.Call.{Call}
 use Rattle.runs.specs.declared.call.Call.TheVariants.{Mark, Prune}
-use Rattle.runs.specs.declared.call.Answer.{Answer}
-use Rattle.runs.specs.declared.call.Answer.TheVariants.{Done, Marked, Cut, Refused}
+use Rattle.runs.specs.declared.call.Taken.TheVariants.{Done, Marked, Cut}
 use Rattle.tickets.specs.declared.planner_refusal.PlannerRefusal.TheVariants.{TooShort, Hopeless}
 
 -- a call and its answer
@@ -64,12 +63,12 @@ pub record Good (w : Setting) (L : Ledger) (s : State) : Type 0 where
 -- what a prune with so many words answers in the state s, and the state that it leaves: with a list that is not enough it is refused
 -- by 17; else by 21 where no self-supporting table lies within the orders' table; else it leaves the largest one, and tells the cuts
 abbrev pub PruneAnswers : Setting → Ledger → ℕ → State → Answer → State → Type 0
-PruneAnswers w L room s Done s' = ⊥
-PruneAnswers w L room s (Marked stamp level) s' = ⊥
-PruneAnswers w L room s (Cut k) s' =
+PruneAnswers w L room s (Ok Done) s' = ⊥
+PruneAnswers w L room s (Ok (Marked stamp level)) s' = ⊥
+PruneAnswers w L room s (Ok (Cut k)) s' =
     (words w s ≤ room) × Largest w L.ceiling (orders_table w L) s'.standing ×
     (starts w s.standing ≡ starts w s'.standing + k)
-PruneAnswers w L room s (Refused e) s' =
+PruneAnswers w L room s (Err e) s' =
     (s' ≡ s) ×
     (((e ≡ TooShort) × (room < words w s)) ⊎ ((e ≡ Hopeless) × (words w s ≤ room) × NoneWithin w L.ceiling (orders_table w L)))
 
@@ -81,7 +80,7 @@ pub record Right (w : Setting) (h : History) (room : ℕ) (s : State) (a : Answe
   pub after : Good w (told h) s'
   pub answers : PruneAnswers w (told h) room s a s'
   -- with a list that is enough it is hopeless exactly when no self-supporting table lies within the orders' table
-  pub hopeless : words w s ≤ room → (a ≡ Refused Hopeless) ↔ NoneWithin w (told h).ceiling (orders_table w (told h))
+  pub hopeless : words w s ≤ room → (a ≡ Err Hopeless) ↔ NoneWithin w (told h).ceiling (orders_table w (told h))
 
 -- what holds of whole runs of calls
 pub record WholeRuns (w : Setting) : Type 0 where
@@ -89,7 +88,7 @@ pub record WholeRuns (w : Setting) : Type 0 where
   pub sealing : (stamp U : ℕ) → Reached w (just_sealed stamp U) (sealed w stamp U)
   pub onward : (h : History) (s s' : State) (c : Call) (a : Answer) → Reached w h s → Means w s c a s' → Reached w (longer h c a) s'
   -- the token that a mark answers is of the newest level, and there is such a level where a token is of it
-  pub marked : (s s' : State) (stamp level : ℕ) → Means w s Mark (Marked stamp level) s' → Newest s' stamp level
+  pub marked : (s s' : State) (stamp level : ℕ) → Means w s Mark (Ok (Marked stamp level)) s' → Newest s' stamp level
   pub tokens : (s : State) (stamp level : ℕ) → Newest s stamp level → (A : Table) × (As : List Table) × (s.levels ≡ A ∷ As)
   -- after every history, and of a prune there
   pub good : (h : History) (s : State) → Reached w h s → Good w (told h) s

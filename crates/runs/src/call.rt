@@ -3,31 +3,32 @@ use tickets::PlannerRefusal;
 /// What can be asked of a planner.
 #[derive(Clone, Copy)]
 pub enum Call {
-    /// Takes one start out of a ticket's row: ticket and start.
-    Ban(usize, usize),
-    /// Takes all other starts out of a ticket's row: ticket and start.
-    Fix(usize, usize),
+    /// Takes one start out of a ticket's row.
+    Ban { ticket: usize, start: usize },
+    /// Takes all other starts out of a ticket's row.
+    Fix { ticket: usize, start: usize },
     /// Sets a smaller ceiling.
-    Lower(u32),
+    Lower { ceiling: u32 },
     /// Opens a level.
     Mark,
     /// Joins the newest level to the one below: the token's stamp and level.
-    Keep(u16, usize),
+    Keep { stamp: u16, level: usize },
     /// Puts back what was taken out since the newest mark: the token's stamp and level.
-    Undo(u16, usize),
+    Undo { stamp: u16, level: usize },
     /// Makes the table the largest self-supporting one: how many words there are for the cuts.
-    Prune(usize),
+    Prune { room: usize },
 }
 
-/// What became of a call.
+/// What a call that was taken tells.
 #[derive(Clone, Copy)]
-pub enum Answer {
-    /// It was taken, and there is nothing to tell.
+pub enum Taken {
+    /// There is nothing to tell.
     Done,
-    /// A mark was taken: its token's stamp and level.
-    Marked(u16, usize),
-    /// A prune was taken: how many cuts it made.
-    Cut(usize),
-    /// It was refused.
-    Refused(PlannerRefusal),
+    /// A mark: its token's stamp and level.
+    Marked { stamp: u16, level: usize },
+    /// A prune: how many cuts it made.
+    Cut { cuts: usize },
 }
+
+/// What became of a call: what it tells, or why it was refused.
+pub type Answer = Result<Taken, PlannerRefusal>;

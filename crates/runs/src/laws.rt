@@ -3,15 +3,11 @@ ghost use Rattle.runs.specs.Supports.{SupportLaws};
 ghost use Rattle.runs.specs.Whole.{EveryRun};
 
 /// When a start is supported, and what keeps it so.
-pub fn support_laws() -> u8
+pub fn support_laws()
     ensures { SupportLaws }
-{
-    0
-}
+{}
 
 /// What holds after every history of calls, and of a prune after it, for every list of tickets.
-pub fn whole_runs() -> u8
+pub fn whole_runs()
     ensures { EveryRun }
-{
-    0
-}
+{}

@@ -9,4 +9,4 @@
 pub mod call;
 pub mod laws;
 
-pub use call::{Answer, Call};
+pub use call::{Answer, Call, Taken};

@@ -10,130 +10,94 @@ ghost use Rattle.spreads.specs.Exists.{FreeExists, PinnedExists, NoneFree};
 ghost use Rattle.spreads.specs.Figures.{FiguresHold};
 
 /// Who serves a set of tickets first has at any time given it no less.
-pub fn domination() -> u8
+pub fn domination()
     ensures { Domination }
-{
-    0
-}
+{}
 
 /// Who serves the tickets of greater value first has the least sum of value times slot.
-pub fn serving_is_least() -> u8
+pub fn serving_is_least()
     ensures { ServingIsLeast }
-{
-    0
-}
+{}
 
 /// A greedy spread is least, whatever the releases and the values are.
-pub fn greedy_is_least() -> u8
+pub fn greedy_is_least()
     ensures { GreedyIsLeast }
-{
-    0
-}
+{}
 
 /// The price of a greedy spread is the free price.
-pub fn greedy_price() -> u8
+pub fn greedy_price()
     ensures { GreedyPrice }
-{
-    0
-}
+{}
 
 /// A pinned ticket has exactly its slots.
-pub fn pinned_alone() -> u8
+pub fn pinned_alone()
     ensures { PinnedAlone }
-{
-    0
-}
+{}
 
 /// With a ticket released at the slot at which it is pinned, and of a value above all others, the price of a
 /// greedy spread is the pinned price.
-pub fn pinned_price() -> u8
+pub fn pinned_price()
     ensures { PinnedPrice }
-{
-    0
-}
+{}
 
 /// The free price does not fall when releases rise.
-pub fn free_rises() -> u8
+pub fn free_rises()
     ensures { FreeRises }
-{
-    0
-}
+{}
 
 /// A pinned price does not fall when the releases of the other tickets rise.
-pub fn pinned_rises() -> u8
+pub fn pinned_rises()
     ensures { PinnedRises }
-{
-    0
-}
+{}
 
 /// Comparing w / p by products is comparing w × (720720 / p).
-pub fn rank_by_products() -> u8
+pub fn rank_by_products()
     ensures { RankByProducts }
-{
-    0
-}
+{}
 
 /// The price of a spread without breaks is 720720 × the cost of its starts.
-pub fn unbroken_price() -> u8
+pub fn unbroken_price()
     ensures { UnbrokenPrice }
-{
-    0
-}
+{}
 
 /// A plan without overlaps, whose starts are not before the releases, is a spread with the price 720720 × its
 /// cost.
-pub fn plan_is_spread() -> u8
+pub fn plan_is_spread()
     ensures { PlanIsSpread }
-{
-    0
-}
+{}
 
 /// So neither the free price nor the pinned price of a ticket at its own start is above 720720 × the cost of
 /// such a plan.
-pub fn plan_bounds() -> u8
+pub fn plan_bounds()
     ensures { PlanBounds }
-{
-    0
-}
+{}
 
 /// What is built in time order, by the tickets' own values, has the free price.
-pub fn built_free() -> u8
+pub fn built_free()
     ensures { BuiltFree }
-{
-    0
-}
+{}
 
 /// What is built with a ticket released at its start and of a value above all others has the pinned price.
-pub fn built_pinned() -> u8
+pub fn built_pinned()
     ensures { BuiltPinned }
-{
-    0
-}
+{}
 
 /// There is one free price.
-pub fn free_exists() -> u8
+pub fn free_exists()
     ensures { FreeExists }
-{
-    0
-}
+{}
 
 /// There is one pinned price of each ticket at each slot.
-pub fn pinned_exists() -> u8
+pub fn pinned_exists()
     ensures { PinnedExists }
-{
-    0
-}
+{}
 
 /// The prices of some worked days.
-pub fn figures_hold() -> u8
+pub fn figures_hold()
     ensures { FiguresHold }
-{
-    0
-}
+{}
 
 /// With no tickets the free price is 0.
-pub fn none_free() -> u8
+pub fn none_free()
     ensures { NoneFree }
-{
-    0
-}
+{}

@@ -10,7 +10,8 @@ const QUOTIENTS: [u32; 16] = [
 pub fn quotient(length: u8) -> u32
     ensures { Quotient length result }
 {
-    if length < 1 || length > 16 {
+    // A number and not an `Option`: each caller has the length of a ticket, and would only unwrap it.
+    if !(1..=16).contains(&length) {
         return 0;
     }
     QUOTIENTS[length as usize - 1]

@@ -1,5 +1,5 @@
 -- What a collection holds, and when it refuses. Assumes nothing.
-use Rattle.std.specs.Prelude.{◌≡◌, ℕ, ◌<◌, ◌≤◌, List, [], ◌∷◌, ◌++◌, map, length, take, Ok, Err, Result}
+use Rattle.std.specs.Prelude.{◌≡◌, ℕ, ◌<◌, ◌≤◌, List, [], ◌∷◌, ◌++◌, map, length, Ok, Err, Result}
 use Rattle.tickets.specs.declared.terms.Terms.{Terms}
 use Rattle.tickets.specs.declared.ticket.Ticket.{Ticket}
 use Rattle.tickets.specs.declared.collection.Collection.{Collection}
@@ -19,9 +19,18 @@ pub record Fair (t : Terms) : Type 0 where
 abbrev pub terms_of : Ticket → Terms
 terms_of t = record { first = t.first; last = t.last; length = t.length; weight = t.weight }
 
+-- a ticket of these terms is asked for: there is one if they are within the limits, and else it is refused
+abbrev pub Judged : Terms → Result Ticket TicketRefusal → Type 0
+Judged terms (Ok t) = Fair terms × (terms_of t ≡ terms)
+Judged terms (Err e) = (Fair terms → ⊥) × (e ≡ OutsideLimits)
+
+-- the least ticket: one slot at slot 0, of no weight
+abbrev pub IsLeast : Ticket → Type 0
+IsLeast t = terms_of t ≡ record { first = 0; last = 0; length = 1; weight = 0 }
+
 -- the tickets of a collection, in the order in which they were posted
 abbrev pub posted : Collection → List Ticket
-posted c = take c.count c.tickets
+posted c = c.tickets.items
 
 -- what a collection holds: the terms of its tickets in order, and its ceiling
 pub record Held : Type 0 where

@@ -1,17 +1,18 @@
-ghost use Rattle.std.specs.Prelude.{◌≡◌, ◌≤◌, length};
+ghost use Rattle.std.specs.Prelude.{◌≤◌, length};
 
 use crate::ticket::Ticket;
+use arrayvec::ArrayVec;
 
-/// The tickets posted so far, and the ceiling.
+/// How many tickets a collection can have.
+pub const MOST_TICKETS: usize = 24;
+
+/// The tickets posted so far, in order, and the ceiling.
 ///
 /// It is not `Copy`: whoever takes it has the only one.
 #[derive(Drop)]
 pub struct Collection {
-    /// The posted tickets are the first `count`; what stands after them has no meaning.
-    pub(crate) tickets: [Ticket; 24],
-    pub(crate) count: usize,
+    pub(crate) tickets: ArrayVec<Ticket, MOST_TICKETS>,
     pub(crate) ceiling: u32,
-    ghost room: { length tickets ≡ 24 },
-    ghost few: { count ≤ 24 },
+    ghost few: { length tickets.items ≤ 24 },
     ghost bounded: { ceiling ≤ 16777215 },
 }

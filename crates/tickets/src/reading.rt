@@ -9,7 +9,7 @@ impl Collection {
     pub fn tickets(&self) -> &[Ticket]
         ensures { result.now ≡ posted self.now }
     {
-        &self.tickets[0..self.count]
+        self.tickets.as_slice()
     }
 
     /// The cost that no plan may pass.
