@@ -1,5 +1,5 @@
 -- How every history goes on with a call. Assumes nothing.
-use Rattle.std.proofs.Common.{◌≡◌, ℕ, sym, refl, subst, Err}
+use Rattle.std.proofs.Common.{◌≡◌, ℕ, Err, inl, inr, sym, refl, subst}
 use Rattle.tickets.specs.Collections.{posted}
 use Rattle.tickets.specs.declared.collection.Collection.{Collection}
 use Rattle.stores.specs.Sets.{Rows}
@@ -9,6 +9,9 @@ use Rattle.runs.specs.Planner.{Answer, sealed, Means, refuses, meaning, asked}
 use Rattle.tickets.specs.declared.planner_refusal.PlannerRefusal.{PlannerRefusal}
 use Rattle.runs.specs.Whole.{just_sealed, longer, Reached}
 use Rattle.runs.specs.declared.call.Call.{Call}
+use Rattle.runs.specs.declared.call.Call.TheVariants.{Ban, Fix}
+use Rattle.runs.proofs.Refusals.{ban_11, ban_12, fix_11, fix_12}
+use Rattle.planner.specs.Finding.{Found}
 use Rattle.runs.proofs.Runs.{every_run}
 use Rattle.planner.specs.declared.state.Planner.{Planner}
 use Rattle.planner.specs.States.{setting_of, state_of}
@@ -32,6 +35,15 @@ module _ {S : Type 0} (rows : S → Rows) where
   pub refused :
       (p : Planner S) (c : Call) (e : PlannerRefusal) → Answers (meaning (setting_of p)) (asked (state_of rows p) c) e → Moved rows p c (Err e) p
   refused p c e why = goes_on p p c (Err e) refl (refuses why refl)
+
+  -- what is not found is refused
+  pub ban_lost : (p : Planner S) (i t : ℕ) (e : PlannerRefusal) → Found (setting_of p) (rows p.store) i t (Err e) → Moved rows p (Ban i t) (Err e) p
+  ban_lost p i t e (inl (is, past)) = rw is (refused p _ _ (ban_11 _ _ i t past))
+  ban_lost p i t e (inr (is, known, off)) = rw is (refused p _ _ (ban_12 _ _ i t known off))
+
+  pub fix_lost : (p : Planner S) (i t : ℕ) (e : PlannerRefusal) → Found (setting_of p) (rows p.store) i t (Err e) → Moved rows p (Fix i t) (Err e) p
+  fix_lost p i t e (inl (is, past)) = rw is (refused p _ _ (fix_11 _ _ i t past))
+  fix_lost p i t e (inr (is, known, off)) = rw is (refused p _ _ (fix_12 _ _ i t known off))
 
   pub begins :
       (c : Collection) (stamp : ℕ) (p : Planner S) → p.collection ≡ c → state_of rows p ≡ sealed (setting_of p) stamp c.ceiling →

@@ -11,7 +11,7 @@ use Rattle.planner.specs.States.{state_of}
 
 -- the token was the newest level's of p, which q has no more, and `set` is what was taken out while that level was the newest; all else
 -- is as it was
-pub record Taken {S : Type 0} (rows : S → Rows) (p : Planner S) (t : Token) (set : BitStore) (q : Planner S) : Type 0 where
+pub record Spent {S : Type 0} (rows : S → Rows) (p : Planner S) (t : Token) (set : BitStore) (q : Planner S) : Type 0 where
   pub newest : Newest (state_of rows p) t.stamp t.level
   pub levels : reverse p.levels.items ≡ set ∷ reverse q.levels.items
   pub collection : q.collection ≡ p.collection
@@ -27,5 +27,5 @@ pub record Stale {S : Type 0} (rows : S → Rows) (p : Planner S) (t : Token) (x
   pub same : q ≡ p
 
 abbrev pub Closed : {S : Type 0} → (S → Rows) → Planner S → Token → Result BitStore TokenRefused → Planner S → Type 0
-Closed rows p t (Ok set) q = Taken rows p t set q
+Closed rows p t (Ok set) q = Spent rows p t set q
 Closed rows p t (Err x) q = Stale rows p t x q

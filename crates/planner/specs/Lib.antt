@@ -4,6 +4,7 @@ pub mod Cuttings
 pub mod Levels
 pub mod States
 pub mod Closing
+pub mod Finding
 pub mod Calls
 pub mod Trims
 pub mod Promise

@@ -1,6 +1,7 @@
 //! The calls that order, and those that open and close levels.
 ghost use Rattle.runs.specs.declared.call.Call.TheVariants.{Ban, Fix, Lower, Mark, Keep, Undo};
-ghost use Rattle.planner.specs.States.{done, opened, closed, HandedBack};
+ghost use Rattle.planner.specs.States.{setting_of, done, opened, closed, HandedBack};
+ghost use Rattle.planner.specs.Finding.{Found};
 ghost use Rattle.planner.specs.Calls.{Moved};
 ghost use Rattle.planner.specs.Closing.{Closed};
 
@@ -13,9 +14,9 @@ use stores::{BitStore, Store};
 use tickets::PlannerRefusal;
 
 impl<S: Store> Planner<S> {
-    /// Takes one start out of a ticket's row.
-    pub fn ban(&mut self, ticket: usize, start: usize) -> Result<(), PlannerRefusal>
-        ensures { Moved S.rows self.old (Ban ticket start) (done result) self.new }
+    /// Refuses a number that no ticket has, and a start that is not in the ticket's row.
+    fn find(&self, ticket: usize, start: usize) -> Result<(), PlannerRefusal>
+        ensures { Found (setting_of self.now) (S.rows self.now.store) ticket start result }
     {
         if ticket >= self.collection.tickets().len() {
             return Err(PlannerRefusal::NoSuchTicket);
@@ -23,6 +24,14 @@ impl<S: Store> Planner<S> {
         if !self.store.holds(ticket, start) {
             return Err(PlannerRefusal::NoSuchStart);
         }
+        Ok(())
+    }
+
+    /// Takes one start out of a ticket's row.
+    pub fn ban(&mut self, ticket: usize, start: usize) -> Result<(), PlannerRefusal>
+        ensures { Moved S.rows self.old (Ban ticket start) (done result) self.new }
+    {
+        self.find(ticket, start)?;
         if self.store.size(ticket) <= 1 {
             return Err(PlannerRefusal::OnlyStart);
         }
@@ -36,12 +45,7 @@ impl<S: Store> Planner<S> {
     pub fn fix(&mut self, ticket: usize, start: usize) -> Result<(), PlannerRefusal>
         ensures { Moved S.rows self.old (Fix ticket start) (done result) self.new }
     {
-        if ticket >= self.collection.tickets().len() {
-            return Err(PlannerRefusal::NoSuchTicket);
-        }
-        if !self.store.holds(ticket, start) {
-            return Err(PlannerRefusal::NoSuchStart);
-        }
+        self.find(ticket, start)?;
         let mut cutting = Cutting::of(&mut self.store);
         cutting.retain(ticket, |other| other == start);
         note(&mut self.levels, &cutting.gone);

@@ -24,7 +24,7 @@ struct Support<'a> {
 
 impl Support<'_> {
     /// Whether the ticket's start is supported.
-    fn of(&self, ticket: usize, start: usize) -> bool
+    fn is_given(&self, ticket: usize, start: usize) -> bool
         requires { (ticket < length (posted self.now.released.collection.now)) × (start ≤ 255) }
         ensures { Tells result (Supports (posted self.now.released.collection.now) (release self.now.released.releases) ticket start self.now.ceiling) }
     {
@@ -46,7 +46,7 @@ impl<S: Store> Cutting<'_, S> {
         ensures cuts { Cuts S.rows self.old self.new }
         ensures least { LeastStart (S.rows self.new.store.now row) (release support.now.released.releases row) result }
     {
-        self.retain(row, |start| support.of(row, start));
+        self.retain(row, |start| support.is_given(row, start));
         let least = self.store.after(row, 0)?;
         Some(least != usize::from(support.released.releases[row]))
     }

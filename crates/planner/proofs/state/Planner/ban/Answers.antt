@@ -1,24 +1,21 @@
-use Rattle.std.proofs.Common.{length, sym, refl, ap, ◌∙◌, arith}
+use Rattle.std.proofs.Common.{◌≡◌, Err, refl, ap, ◌∙◌, arith, rules}
 use Rattle.runs.specs.Planner.{bans, takes}
-use Rattle.runs.proofs.Refusals.{ban_11, ban_12, ban_13, ban_free}
+use Rattle.runs.proofs.Refusals.{ban_13, ban_free}
 use Rattle.stores.specs.Sets.{without}
 use Rattle.planner.specs.States.{setting_of, state_of}
 use Rattle.planner.proofs.Marks.{state_same, marks_cut}
-use Rattle.planner.proofs.Going.{goes_on, refused}
+use Rattle.planner.proofs.Going.{goes_on, refused, ban_lost}
 use Rattle.planner.proofs.state.Planner.ban.Goals as goal
 
-pub returns-then-ticket-tickets : goal.returns-then-ticket-tickets
-returns-then-ticket-tickets g c =
-    refused g.S.Store.rows c.args.self.now _ _ (ban_11 _ _ c.args.ticket c.args.start (omega (arith, ap length c.tickets.ensures)))
-
-pub returns-then-not-holds : goal.returns-then-not-holds
-returns-then-not-holds g c =
-    refused g.S.Store.rows c.args.self.now _ _ (ban_12 _ _ c.args.ticket c.args.start (omega (arith, ap length c.tickets.ensures)) (sym c.if-not-holds.ensures))
+pub returns-in_err-find : goal.returns-in_err-find
+returns-in_err-find g c =
+    let is : c.from_residual.result ≡ Err c.in_err-find.field-0.0 = search rules in
+    rw is (ban_lost g.S.Store.rows c.args.self.now c.args.ticket c.args.start _ c.in_err-find.ensures)
 
 pub returns-then-size-le1 : goal.returns-then-size-le1
 returns-then-size-le1 g c =
     refused g.S.Store.rows c.args.self.now _ _
-    (ban_13 _ _ c.args.ticket c.args.start (omega (arith, ap length c.tickets.ensures)) (sym c.if-not-holds.ensures) (omega (arith, c.size.ensures)))
+    (ban_13 _ _ c.args.ticket c.args.start c.in_ok-find.ensures.0 c.in_ok-find.ensures.1 (omega (arith, c.size.ensures)))
 
 pub returns : goal.returns
 returns g c =
@@ -26,6 +23,6 @@ returns g c =
     let p = c.args.self.now in
     let same = c.of-cutting.ensures.store in
     goes_on R p _ _ _ refl (takes
-    (ban_free (setting_of p) (state_of R p) c.args.ticket c.args.start (omega (arith, ap length c.tickets.ensures)) (sym c.if-not-holds.ensures) (omega (arith, c.size.ensures)))
+    (ban_free (setting_of p) (state_of R p) c.args.ticket c.args.start c.in_ok-find.ensures.0 c.in_ok-find.ensures.1 (omega (arith, c.size.ensures)))
     (bans (state_same (c.cut.ensures.table ∙ ap (λ s. without (R s) c.args.ticket c.args.start) same) refl
     (marks_cut R p.store _ _ _ _ same c.of-cutting.ensures.gone c.cut.ensures.cuts c.note.ensures) refl)))

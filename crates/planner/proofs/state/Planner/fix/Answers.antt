@@ -1,21 +1,18 @@
-use Rattle.std.proofs.Common.{◌≡◌, eqb, length, sym, refl, ap, ◌∙◌, arith, rules}
+use Rattle.std.proofs.Common.{◌≡◌, eqb, Err, refl, ap, ◌∙◌, rules}
 use Rattle.runs.specs.Planner.{fixes, takes}
-use Rattle.runs.proofs.Refusals.{fix_11, fix_12, fix_free}
+use Rattle.runs.proofs.Refusals.{fix_free}
 use Rattle.runs.specs.Orders.{fixed}
 use Rattle.planner.specs.Cuttings.{Retained}
 use Rattle.planner.proofs.Retaining.{retained_as, retained_fixed}
 use Rattle.planner.specs.States.{setting_of, state_of}
 use Rattle.planner.proofs.Marks.{state_same, marks_cut}
-use Rattle.planner.proofs.Going.{goes_on, refused}
+use Rattle.planner.proofs.Going.{goes_on, fix_lost}
 use Rattle.planner.proofs.state.Planner.fix.Goals as goal
 
-pub returns-then-ticket-tickets : goal.returns-then-ticket-tickets
-returns-then-ticket-tickets g c =
-    refused g.S.Store.rows c.args.self.now _ _ (fix_11 _ _ c.args.ticket c.args.start (omega (arith, ap length c.tickets.ensures)))
-
-pub returns-then-not-holds : goal.returns-then-not-holds
-returns-then-not-holds g c =
-    refused g.S.Store.rows c.args.self.now _ _ (fix_12 _ _ c.args.ticket c.args.start (omega (arith, ap length c.tickets.ensures)) (sym c.if-not-holds.ensures))
+pub returns-in_err-find : goal.returns-in_err-find
+returns-in_err-find g c =
+    let is : c.from_residual.result ≡ Err c.in_err-find.field-0.0 = search rules in
+    rw is (fix_lost g.S.Store.rows c.args.self.now c.args.ticket c.args.start _ c.in_err-find.ensures)
 
 pub returns : goal.returns
 returns g c =
@@ -25,6 +22,6 @@ returns g c =
     let kept : Retained (λ t b. b ≡ eqb t c.args.start) c.args.ticket (R c.of-cutting.result.store.now) (R c.retain.new.self.store.now) =
     retained_as _ _ c.args.ticket _ _ (g.met.S.Store.bounded c.of-cutting.result.store.now) (λ t b l k. search rules) c.retain.ensures.table in
     goes_on R p _ _ _ refl (takes
-    (fix_free (setting_of p) (state_of R p) c.args.ticket c.args.start (omega (arith, ap length c.tickets.ensures)) (sym c.if-not-holds.ensures))
+    (fix_free (setting_of p) (state_of R p) c.args.ticket c.args.start c.in_ok-find.ensures.0 c.in_ok-find.ensures.1)
     (fixes (state_same (retained_fixed _ _ c.args.ticket c.args.start kept ∙ ap (λ s. fixed (R s) c.args.ticket c.args.start) same) refl
     (marks_cut R p.store _ _ _ _ same c.of-cutting.ensures.gone c.retain.ensures.cuts c.note.ensures) refl)))
