@@ -36,7 +36,7 @@ module _ {K : Type 0} (cmp : K → K → Ordering) (total : IsTotalOrder cmp) wh
       level Equal h k = refl
       level Greater h k = absurd (true≢false k)
 
--- of two numbers the lower comes first, and that is an order
+-- of two numbers the lower comes first, and that is an order, by the test itself
 pub lower_asymmetric : (a b : ℕ) → nat_lt a b ≡ true → nat_lt b a ≡ false
 lower_asymmetric a b h = le-ltb b a (omega (arith, ltb-true a b h))
 

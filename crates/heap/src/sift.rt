@@ -5,6 +5,9 @@ ghost use Rattle.heap.specs.Trees.{below, by_key, Tree, Front};
 
 use crate::entry::Entry;
 
+// The slices are lent for one call and are trees before or after it, so each clause says of which what is a tree. A slice and a place in
+// it are handed on as two: the place moves while the slice stays.
+
 /// Whether the entry at `i` is before the one at `j`.
 fn is_before_at<E: Entry>(slots: &[E], i: usize, j: usize) -> bool
     requires { (i < length slots.now) × (j < length slots.now) }

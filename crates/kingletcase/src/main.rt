@@ -7,7 +7,7 @@ use std::io::Read;
 use std::process::ExitCode;
 use ticket_file::reading::LONGEST_FILE;
 
-/// One byte more than the longest file, so that a longer one is told from it.
+/// One byte more than the longest file, so that a longer one is told from it. A constant cannot call `From`.
 const ENOUGH_BYTES: u64 = LONGEST_FILE as u64 + 1;
 
 /// Reads the file, prints the report, and answers the fault.

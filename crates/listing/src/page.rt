@@ -8,7 +8,7 @@ use crate::sink::Sink;
 /// A lent buffer that is written from its front: the text that stands there ends at `end`.
 #[derive(Drop)]
 pub(crate) struct Page<'a> {
-    // The buffer is lent and nothing may allocate, so the end of the text stands beside it.
+    // The buffer is lent whole, and what stands after the text is to stay: so the end of the text stands beside it.
     pub(crate) buffer: &'a mut [u8],
     pub(crate) end: usize,
     ghost within: { end ≤ length buffer.now },

@@ -9,6 +9,8 @@ use crate::range::Range;
 use crate::sink::Sink;
 use stores::{STARTS, Store};
 
+// A store and a row are handed on as two: the store's own calls take both.
+
 /// The first longest unbroken range of a row's starts, from the start `from` on.
 fn next_range<S: Store>(store: &S, row: usize, from: usize) -> Option<Range>
     ensures { NextRange (S.rows store.now row) from result }

@@ -8,6 +8,8 @@ pub(crate) trait Sink {
     /// What it was, the bytes that it takes, and what it is then.
     ghost takes: { Self → List ℕ → Self → Type 0 };
 
+    // How much room there must be hangs on the text that comes, so each text's clause says it.
+
     /// Takes the text.
     fn put(&mut self, text: &[u8])
         requires { length text.now ≤ room self.old }

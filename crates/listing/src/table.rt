@@ -9,6 +9,8 @@ use queries::Table;
 use stores::Store;
 use tickets::PlannerRefusal;
 
+// The ceiling is no part of a table: its prices do not know one.
+
 /// How many bytes the listing has.
 pub fn listing_length<S: Store>(table: &Table<'_, S>, ceiling: u32) -> usize
     ensures { (text : List ℕ) × Lists (posted table.now.collection.now) ceiling (S.rows table.now.store.now) text × (result ≡ length text) }

@@ -54,6 +54,7 @@ impl<'a, S: Store> Cutting<'a, S> {
             next = start + 1;
         }
     }
+
     /// Puts back all that was cut out.
     pub(crate) fn put_back(&mut self)
         ensures name { self.new.store.ghost_name ≡ self.old.store.ghost_name }

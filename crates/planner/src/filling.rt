@@ -12,6 +12,7 @@ use tickets::Ticket;
 fn empty_row<S: Store>(store: &mut S, row: usize)
     ensures { S.rows store.new ≡ without_row (S.rows store.old) row }
 {
+    // What was cut out is let go: the one walk over a row notes it for its other uses.
     Cutting::of(store).retain(row, |_| false);
 }
 

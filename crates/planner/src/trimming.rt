@@ -75,6 +75,7 @@ impl<S: Store> Cutting<'_, S> {
         ensures done { Settled (setting (posted collection.now)) ceiling (S.rows self.old.store.now) (S.rows self.new.store.now) result }
     {
         loop {
+            // The releases are taken out of what the table answers, which would hold on to the store.
             let store = &*self.store;
             let releases = Table { collection, store }.released()?.releases;
             let released = Released {

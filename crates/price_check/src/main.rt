@@ -6,7 +6,7 @@ use anyhow::{Context, anyhow};
 use pricing::Released;
 use std::io::Read;
 use std::slice::Iter;
-use tickets::{Collection, Terms};
+use tickets::{Collection, MOST_TICKETS, Terms};
 
 /// The next number of the file.
 fn next(numbers: &mut Iter<u64>) -> anyhow::Result<u64> {
@@ -44,8 +44,11 @@ fn numbers_of(rt: &HostRuntime) -> anyhow::Result<Vec<u64>> {
 }
 
 /// Posts the tickets of a day, and answers their releases.
-fn posted(numbers: &mut Iter<u64>, collection: &mut Collection) -> anyhow::Result<[u8; 24]> {
-    let mut releases = [0u8; 24];
+fn posted(
+    numbers: &mut Iter<u64>,
+    collection: &mut Collection,
+) -> anyhow::Result<[u8; MOST_TICKETS]> {
+    let mut releases = [0u8; MOST_TICKETS];
     let count = next(numbers)?;
     for _ in 0..count {
         let terms = Terms {

@@ -1,5 +1,6 @@
--- An order made of two others, by tests. Assumes nothing.
-use Rattle.std.proofs.Common.{◌≡◌, Bool, true, false, not, ◌&&◌, ◌||◌, sym, refl, ◌∙◌, true≢false}
+-- Laws of tests, of any two and not of those that a `cmp` makes: an order made of two others, marks, and w / p by products. They say more than
+-- the orders of the waiting lines need, and stand for whoever orders by tests. Assumes nothing.
+use Rattle.std.proofs.Common.{◌≡◌, ℕ, ◌*◌, ◌≤◌, Bool, true, false, not, ◌&&◌, ◌||◌, sym, refl, ◌∙◌, true≢false, arith, mul_right_comm, mul-le-mul_right, le_of_mul-le-mul_right}
 use Rattle.pricing.specs.Keys.{lex}
 
 -- an order made of two others
@@ -51,3 +52,27 @@ module _ {X : Type 0} (a b : X → X → Bool) where
 
   pub lex_asym : Asymmetric a → Asymmetric b → Asymmetric (lex a b)
   lex_asym f g x y h = turned (a x y) (a y x) (b x y) (b y x) (f x y) (g x y) h
+
+-- marks
+pub pins : (x y z : Bool) → (y && not x) ≡ false → (z && not y) ≡ false → (z && not x) ≡ false
+pins x y false h k = refl
+pins x true true h k = h
+pins x false true h k = absurd (true≢false k)
+
+pub same_pin : (x y : Bool) → (x && not y) ≡ false → (y && not x) ≡ false → x ≡ y
+same_pin false false h k = refl
+same_pin false true h k = absurd (true≢false k)
+same_pin true false h k = absurd (true≢false h)
+same_pin true true h k = refl
+
+pub one_pin : (x y : Bool) → (x && not y) ≡ true → (y && not x) ≡ false
+one_pin false y h = absurd (true≢false (sym h))
+one_pin true true h = absurd (true≢false (sym h))
+one_pin true false h = refl
+
+-- a / p ≤ b / q and b / q ≤ c / r, by products
+pub cross : (a p b q c r : ℕ) → 1 ≤ q → a * q ≤ b * p → b * r ≤ c * q → a * r ≤ c * p
+cross a p b q c r z h k =
+    let u : a * q * r ≤ b * p * r = mul-le-mul_right r h in
+    let v : b * r * p ≤ c * q * p = mul-le-mul_right p k in
+    le_of_mul-le-mul_right {k = q} (omega (arith, u, v, mul_right_comm a q r, mul_right_comm b p r, mul_right_comm c q p)) z

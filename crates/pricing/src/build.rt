@@ -12,6 +12,9 @@ use crate::step::{Event, Playing};
 use crate::terms::{half, stretch};
 use crate::work::Works;
 use heap::Heap;
+use tickets::MOST_TICKETS;
+
+// Constants and no `Default`: a release or a rank that means nothing should be no default of its type.
 
 /// What stands in a slot in which nothing waits.
 const NO_RELEASE: Release = Release { slot: 0, number: 0 };
@@ -70,10 +73,10 @@ impl Works {
         ensures busy { Busy self.now.entries.items result }
         ensures most { result ≤ 48 * most_stretch }
     {
-        let mut coming_slots = [NO_RELEASE; 24];
-        let mut ready_slots = [NO_RANK; 24];
+        let mut coming_slots = [NO_RELEASE; MOST_TICKETS];
+        let mut ready_slots = [NO_RANK; MOST_TICKETS];
         // What each ticket has left stands beside the entries, since those are only lent.
-        let mut left = [0u8; 24];
+        let mut left = [0u8; MOST_TICKETS];
         let mut coming = Heap::new(&mut coming_slots);
         let mut ready = Heap::new(&mut ready_slots);
         self.enter(&mut coming, &mut left);

@@ -9,6 +9,8 @@ use crate::keys::{Rank, Release};
 use heap::Entry;
 use std::cmp::Ordering;
 
+// Each kind of entry shows its own law `apart`, so no one impl is for all that are their own keys.
+
 impl Entry for Release {
     type Key = Release;
 
@@ -21,7 +23,7 @@ impl Entry for Release {
     }
 }
 
-/// The pinned first, then the greater w / p, then the lower number, then the lower p. A derive would compare w and p.
+/// The pinned first, then the greater w / p, then the lower number, then the lower p. A derive, of `PartialOrd` too, would compare w and p.
 impl Ord for Rank {
     ghost cmp = { rank_cmp };
 

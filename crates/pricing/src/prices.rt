@@ -8,7 +8,7 @@ ghost use Rattle.pricing.specs.Prices.{PinnedAnswer, Floor, start_of, first_star
 use crate::work::{Work, Works};
 use arrayvec::ArrayVec;
 use std::array;
-use tickets::{Collection, PlannerRefusal, Ticket};
+use tickets::{Collection, MOST_TICKETS, PlannerRefusal, Ticket};
 
 /// The last slot in which a ticket can start.
 pub const LAST_START: usize = 255;
@@ -21,7 +21,7 @@ pub const PRICE_OF_ONE: u64 = 720720;
 pub struct Released<'a> {
     pub collection: &'a Collection,
     // No vector: with 24 places every value is valid, and no caller owes a bound on the length.
-    pub releases: [u8; 24],
+    pub releases: [u8; MOST_TICKETS],
 }
 
 /// The first start of the ticket, and 0 where no ticket has the number.

@@ -11,8 +11,9 @@ fn slots(since: u16, until: u16) -> u32
     ensures sum { result ≡ slots_between since until }
     ensures most { result ≤ 16496 }
 {
-    let many = until as u32 - since as u32;
-    (many * (2 * since as u32 + many) - many) / 2
+    let first = u32::from(since);
+    let many = u32::from(until) - first;
+    (many * (2 * first + many) - many) / 2
 }
 
 /// What playing from `since` to `until` - 1 adds to the price.
@@ -21,7 +22,7 @@ pub(crate) fn stretch(entry: Work, since: u16, until: u16) -> u64
     ensures value { result ≡ stretch_of entry since until }
     ensures most { result ≤ most_stretch }
 {
-    entry.weight as u64 * quotient(entry.length) as u64 * slots(since, until) as u64
+    u64::from(entry.weight) * u64::from(quotient(entry.length)) * u64::from(slots(since, until))
 }
 
 /// What a ticket adds to the price wherever it plays.
@@ -29,5 +30,5 @@ pub(crate) fn half(entry: Work) -> u64
     ensures value { result ≡ half_of entry }
     ensures most { result ≤ most_half }
 {
-    entry.weight as u64 * (entry.length as u64 + 1) * 360360
+    u64::from(entry.weight) * (u64::from(entry.length) + 1) * 360360
 }

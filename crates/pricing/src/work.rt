@@ -2,6 +2,7 @@
 ghost use Rattle.std.specs.Prelude.{◌≤◌, length};
 
 use arrayvec::ArrayVec;
+use tickets::MOST_TICKETS;
 
 /// The working entry of a ticket.
 #[derive(Clone, Copy)]
@@ -32,6 +33,6 @@ impl Default for Work {
 /// The working entries of all tickets of a collection, by their numbers.
 #[derive(Drop)]
 pub(crate) struct Works {
-    pub(crate) entries: ArrayVec<Work, 24>,
+    pub(crate) entries: ArrayVec<Work, MOST_TICKETS>,
     ghost few: { length entries.items ≤ 24 },
 }

@@ -19,6 +19,8 @@ struct Plan<'a> {
 }
 
 impl Plan<'_> {
+    // The bound on a number hangs on the plan that it is used with, so no type of a number states it: the clause stays on each.
+
     /// The first slot of ticket `i`.
     fn start(&self, i: usize) -> u32
         requires { i < length self.now.tickets.now }

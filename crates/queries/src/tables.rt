@@ -6,7 +6,7 @@ ghost use Rattle.queries.specs.TablePrices.{Released, FreeAnswer, PinnedAnswer, 
 use crate::table::Table;
 use pricing::LAST_START;
 use stores::Store;
-use tickets::PlannerRefusal;
+use tickets::{MOST_TICKETS, PlannerRefusal};
 
 impl<'a, S: Store> Table<'a, S> {
     /// The tickets, each released at the first start of its row, and the numbers that no ticket has at 0. There are
@@ -15,7 +15,7 @@ impl<'a, S: Store> Table<'a, S> {
         ensures same { IfSome result (λ r. r.collection.now ≡ self.now.collection.now) }
         ensures releases { Released (posted self.now.collection.now) (S.rows self.now.store.now) (option_map (λ r. r.releases) result) }
     {
-        let mut releases = [0u8; 24];
+        let mut releases = [0u8; MOST_TICKETS];
         let used = &mut releases[..self.collection.tickets().len()];
         for (row, release) in used.iter_mut().enumerate() {
             *release = self.store.after(row, 0)? as u8;
@@ -38,6 +38,7 @@ impl<'a, S: Store> Table<'a, S> {
     pub fn pinned_price(&self, ticket: usize, start: usize) -> Result<Option<u64>, PlannerRefusal>
         ensures { PinnedAnswer (posted self.now.collection.now) (S.rows self.now.store.now) ticket start result }
     {
+        // Asked here too, and not left to the released tickets: 11 and 12 come before an empty row, where there are none.
         if ticket >= self.collection.tickets().len() {
             return Err(PlannerRefusal::NoSuchTicket);
         }

@@ -1,5 +1,7 @@
 use tickets::PlannerRefusal;
 
+// A token's stamp and level stand as two: the definitions compare each with another part of the state.
+
 /// What can be asked of a planner.
 #[derive(Clone, Copy)]
 pub enum Call {

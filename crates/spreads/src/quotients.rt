@@ -14,5 +14,5 @@ pub fn quotient(length: u8) -> u32
     if !(1..=16).contains(&length) {
         return 0;
     }
-    QUOTIENTS[length as usize - 1]
+    QUOTIENTS[usize::from(length) - 1]
 }

@@ -3,6 +3,8 @@ use crate::plain::Plain;
 use std::process::Abort;
 use stores::{BitStore, ROWS, STARTS, Store};
 
+// A store and the plain table are handed on as two: a type for the pair would serve these four functions alone.
+
 /// Makes one call of both, and compares the answers.
 fn same_answer<S: Store>(rt: &impl Abort, store: &mut S, plain: &mut Plain, call: Call) {
     match call {

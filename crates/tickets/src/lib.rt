@@ -15,7 +15,7 @@ pub mod refusal;
 pub mod terms;
 pub mod ticket;
 
-pub use collection::Collection;
+pub use collection::{Collection, MOST_TICKETS};
 pub use planner_refusal::PlannerRefusal;
 pub use refusal::TicketRefusal;
 pub use terms::Terms;

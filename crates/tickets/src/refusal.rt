@@ -13,6 +13,8 @@ pub enum TicketRefusal {
 }
 
 impl TicketRefusal {
+    // Not one method of a trait for all layers: each answers by its own layer's definition.
+
     /// The number by which the refusal is known outside.
     pub fn number(self) -> u8
         ensures { result ≡ (meaning self).number }
