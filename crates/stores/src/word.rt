@@ -28,6 +28,7 @@ pub(crate) fn count_bits(word: u64) -> usize
     ensures value { result ≡ count (bit word) 64 }
     ensures most { result ≤ 64 }
 {
+    // There is no `From<u32>` for `usize`, here and below.
     word.count_ones() as usize
 }
 
