@@ -5,3 +5,5 @@ mod AfterBans
 -- The records one by one: those that are posted, those that are banned.
 mod Records
 mod Plans
+mod Written
+mod Outcomes

@@ -55,7 +55,7 @@ stands_more g m n i t s moved =
     let is = (ban_taken m n i t moved.means).1 in
     let more : List Order = ban_order i t ∷ orders g in
     let then : state_of bit_rows n ≡ banned ts (with_record g (ban i t)) =
-      is ∙ ap (λ (x : State). with_table x (less (ban_order i t) x.standing)) s.state ∙ ap (λ os. with_table (banned ts g) (ordered (setting ts) os)) (sym (orders_more g i t))
+    is ∙ ap (λ (x : State). with_table x (less (ban_order i t) x.standing)) s.state ∙ ap (λ os. with_table (banned ts g) (ordered (setting ts) os)) (sym (orders_more g i t))
     in
     record {
       collection = ap held moved.collection ∙ s.collection;
@@ -150,8 +150,7 @@ module _ (xs : List Placed) (k : ℕ) (first m n : Planner BitStore) (ready : Re
 
   pub banned_first : (f : Fault) → Judged m (plain (get_or xs k blank).record) (get_or xs k blank).place (Err f) n → BannedAll xs (Err f) n
   banned_first f judged =
-      let (e, answers, at) = stop (recs xs) (recs (take k xs)) (recs (drop (k + 1) xs)) (plain (get_or xs k blank).record) recs_are ready.order m n (get_or xs k blank).place f sofar.1 judged in
-      (
+      let (e, answers, at) = stop (recs xs) (recs (take k xs)) (recs (drop (k + 1) xs)) (plain (get_or xs k blank).record) recs_are ready.order m n (get_or xs k blank).place f sofar.1 judged in (
         e,
         record {
           before = take k xs;

@@ -74,8 +74,7 @@ module _ (xs : List Placed) (k : ℕ) (c : Collection) (lt : k < length xs) (sof
   pub posted_first : (f : Fault) (d : Collection) → Posted c (plain (get_or xs k blank).record) (get_or xs k blank).place (Err f) d → Collected xs (Err f)
   unfolding r x
   posted_first f d ((e, answers, at), same) =
-      let g = gather nothing (recs (take k xs)) in
-      (
+      let g = gather nothing (recs (take k xs)) in (
         e,
         record {
           before = take k xs;
