@@ -2,8 +2,10 @@
 mod Tickets
 mod Causes
 mod AfterBans
--- The records one by one: those that are posted, those that are banned.
+-- The records one by one: those that are posted, and the bans that a planner takes.
 mod Records
 mod Plans
-mod Written
+-- What a file comes to; the listing; the one verdict.
 mod Outcomes
+mod Written
+mod Verdict

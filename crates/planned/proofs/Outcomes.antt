@@ -42,6 +42,10 @@ use Rattle.planned.specs.Reports.{Accepted, Planned, HopelessDay, FaultOf, fault
 use Rattle.planned.proofs.Causes.{later}
 use Rattle.planned.proofs.Records.{blank, recs_around, posting_first}
 
+no_fault : (f : Option FileFault) → ((x : FileFault) → f ≡ Some x → ⊥) → f ≡ None
+no_fault None h = refl
+no_fault (Some x) h = absurd (h x refl)
+
 module _ (file : List ℕ) (x : Reading) (read : Read file x) (xs : List Placed) (same : xs ≡ vec_items x.records) where
   are : recs xs ≡ read.rs
   are = handed_all 5 xs read.rs (ap (map seen) same ∙ read.handed)
@@ -86,11 +90,11 @@ module _ (file : List ℕ) (x : Reading) (read : Read file x) (xs : List Placed)
       form_fault judge file f.place read.rs ends.1 (subst (Taken judge) are taken) later f.refusal ends.0
 
   -- all records are taken, and nothing is wrong
-  pub all_found : (ts : List Ticket) → Taken judge (recs xs) → x.fault ≡ None → Posts (gather nothing (recs xs)) ts → Accepted file (recs xs) ts
-  all_found ts taken none posts = record {
-    holds = subst (Holds file) (sym are) (subst (Ends file read.rs) none read.ends);
+  pub all_found : (m : Planner BitStore) (u : Unit) → ((f : FileFault) → x.fault ≡ Some f → ⊥) → BannedAll xs (Ok u) m → Accepted file (recs xs) (posted m.collection)
+  all_found m u well (taken, stands) = record {
+    holds = subst (Holds file) (sym are) (subst (Ends file read.rs) (no_fault x.fault well) read.ends);
     taken = taken;
-    posts = posts;
+    posts = ap (λ h. h.tickets) stands.collection;
   }
 
 -- a refusal by the collection, or by the planner, of a first record
@@ -158,8 +162,3 @@ module _ (file : List ℕ) (rs : List Rec) (m n : Planner BitStore) (s : Stands 
       (λ short. absurd (omega (arith, short.1, room, enough m)))
       (λ none. subst (λ d. FaultOf file (OfPlanner d) (length file)) (sym none.0) (hopeless (hopeless_day none.2)))
       (p.promise s.history s.reached).right.answers.1
-
--- what is no fault is none
-pub no_fault : (f : Option FileFault) → ((x : FileFault) → f ≡ Some x → ⊥) → f ≡ None
-no_fault None h = refl
-no_fault (Some x) h = absurd (h x refl)

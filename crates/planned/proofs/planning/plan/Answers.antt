@@ -1,9 +1,8 @@
-use Rattle.std.proofs.Common.{vec_items, refl, ap}
+use Rattle.std.proofs.Common.{vec_items, refl}
 use Rattle.std.proofs.lemmas.Result.{err_from_is_err_and}
-use Rattle.tickets.specs.Collections.{posted}
 use Rattle.planned.specs.Records.{recs}
 use Rattle.planned.specs.Reports.{faulty}
-use Rattle.planned.proofs.Outcomes.{ordered_recs, form_found, all_found, posting_fault, banning_fault, sealed_ready, pruned_planned, pruned_hopeless, no_fault}
+use Rattle.planned.proofs.Outcomes.{ordered_recs, form_found, all_found, posting_fault, banning_fault, sealed_ready, pruned_planned, pruned_hopeless}
 use Rattle.planned.proofs.planning.plan.Goals as goal
 
 pub returns-in_err-collection : goal.returns-in_err-collection
@@ -31,16 +30,14 @@ returns-in-Some c =
 
 pub returns-in-Ok : goal.returns-in-Ok
 returns-in-Ok c =
-    let (taken, stands) = c.in_ok-ban_all.ensures in
     let xs = c.deref-2.result.now in
     let m = c.ban_all.new.planner in
-    let accepted = all_found c.args.file.now c.in_ok-reading.reading c.in_ok-reading.ensures.read xs c.deref-2.ensures.value (posted m.collection) taken (no_fault c.in_ok-reading.reading.fault c.in_default.not-Some) (ap (λ h. h.tickets) stands.collection) in
-    pruned_planned c.args.file.now (recs xs) m c.prune.new.self stands accepted _ _ c.in-Ok.field-0 c.in-Ok.ensures
+    let accepted = all_found c.args.file.now c.in_ok-reading.reading c.in_ok-reading.ensures.read xs c.deref-2.ensures.value m tt c.in_default.not-Some c.in_ok-ban_all.ensures in
+    pruned_planned c.args.file.now (recs xs) m c.prune.new.self c.in_ok-ban_all.ensures.1 accepted _ _ c.in-Ok.field-0 c.in-Ok.ensures
 
 pub returns : goal.returns
 returns c =
-    let (taken, stands) = c.in_ok-ban_all.ensures in
     let xs = c.deref-2.result.now in
     let m = c.ban_all.new.planner in
-    let accepted = all_found c.args.file.now c.in_ok-reading.reading c.in_ok-reading.ensures.read xs c.deref-2.ensures.value (posted m.collection) taken (no_fault c.in_ok-reading.reading.fault c.in_default.not-Some) (ap (λ h. h.tickets) stands.collection) in
-    pruned_hopeless c.args.file.now (recs xs) m c.prune.new.self stands accepted _ _ c.in-Err.refusal refl c.in-Err.ensures
+    let accepted = all_found c.args.file.now c.in_ok-reading.reading c.in_ok-reading.ensures.read xs c.deref-2.ensures.value m tt c.in_default.not-Some c.in_ok-ban_all.ensures in
+    pruned_hopeless c.args.file.now (recs xs) m c.prune.new.self c.in_ok-ban_all.ensures.1 accepted _ _ c.in-Err.refusal refl c.in-Err.ensures
