@@ -9,3 +9,5 @@ mod Plans
 mod Outcomes
 mod Written
 mod Verdict
+-- The affordable plans.
+mod Affordables

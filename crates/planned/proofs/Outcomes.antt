@@ -1,13 +1,11 @@
 -- What a file comes to, from its reading and the judging of its records. Assumes nothing.
-use Rattle.std.proofs.Common.{◌≡◌, ℕ, ◌+◌, ◌*◌, ◌-◌, ◌<◌, ◌≤◌, List, [], ◌∷◌, ◌++◌, map, length, get_or, take, Some, None, Ok, Err, vec_items, Option, Result, sym, refl, ap, ◌∙◌, subst, inl, inr, ⊎_elim, append-nil, arith, length-append}
+use Rattle.std.proofs.Common.{◌≡◌, ℕ, ◌+◌, ◌<◌, ◌≤◌, List, [], ◌∷◌, ◌++◌, map, length, get_or, take, Some, None, Ok, Err, vec_items, Option, sym, refl, ap, ◌∙◌, subst, ⊎_elim, append-nil, arith, length-append}
 use lib.ListN.{length-map}
 use Rattle.std.specs.List.{flat_map}
 use Rattle.std.proofs.lemmas.List.{take_at, get_or_at}
-use Rattle.tickets.specs.Collections.{held, terms_of, posted}
-use Rattle.tickets.specs.declared.ticket.Ticket.{Ticket}
+use Rattle.tickets.specs.Collections.{held, posted}
 use Rattle.tickets.specs.declared.collection.Collection.{Collection}
 use Rattle.tickets.specs.declared.planner_refusal.PlannerRefusal.{PlannerRefusal}
-use Rattle.tickets.specs.declared.planner_refusal.PlannerRefusal.TheVariants.{TooShort, Hopeless}
 use Rattle.ticket_file.specs.declared.refusal.FileFault.{FileFault}
 use Rattle.ticket_file.specs.declared.record.Placed.{Placed}
 use Rattle.ticket_file.specs.declared.reading.Reading.{Reading}
@@ -16,13 +14,12 @@ use Rattle.ticket_file.specs.Faults.{no_judge, Taken, Upto, form, contents, Faul
 use Rattle.ticket_file.specs.Readings.{plain, seen, Ends, Read}
 use Rattle.ticket_file.proofs.Verdicts.{whole_upto, refuses_contents}
 use Rattle.ticket_file.proofs.Judged.{leads_up, stands, comes, judged, form_fault, handed_all, handed_at}
-use Rattle.day.specs.Judging.{Gathered, nothing, gather}
+use Rattle.day.specs.Judging.{nothing, gather}
 use Rattle.stores.specs.BitRows.{bit_rows}
 use Rattle.stores.specs.declared.bit_store.BitStore.{BitStore}
-use Rattle.runs.specs.Tables.{Table, Setting, starts, NoneWithin, Largest}
-use Rattle.runs.specs.Supports.{setting}
-use Rattle.runs.specs.Ledger.{Ledger, in_force, orders_table as ledger_table}
-use Rattle.runs.specs.Orders.{Order, ordered}
+use Rattle.runs.specs.Tables.{NoneWithin, Largest}
+use Rattle.runs.specs.Ledger.{Ledger, orders_table as ledger_table}
+use Rattle.runs.specs.Orders.{ordered}
 use Rattle.runs.specs.Planner.{words}
 use Rattle.runs.specs.Whole.{told, just_sealed}
 use Rattle.runs.proofs.Starts.{starts_most}
@@ -31,14 +28,11 @@ use Rattle.planner.specs.States.{setting_of, state_of}
 use Rattle.planner.specs.Calls.{Sealed}
 use Rattle.planner.specs.Promise.{Pruned}
 use Rattle.planned.specs.declared.fault.Fault.{Fault}
-use Rattle.planned.specs.declared.fault.Refusal.{Refusal}
-use Rattle.planned.specs.declared.fault.Refusal.TheVariants.{File, Ticket as OfTicket, Planner as OfPlanner}
-use Rattle.planned.specs.declared.planning.PlanError.{PlanError}
-use Rattle.planned.specs.declared.planning.PlanError.TheVariants.{Refused}
-use Rattle.planned.specs.Judging.{Cause, collecting, planning, Posts, orders, orders_table, banned, judge, reason}
+use Rattle.planned.specs.declared.fault.Refusal.TheVariants.{Planner as OfPlanner}
+use Rattle.planned.specs.Judging.{Cause, collecting, planning, orders, orders_table, banned, judge, reason}
 use Rattle.planned.specs.Records.{recs, FirstRefused, Collected}
-use Rattle.planned.specs.Plans.{ledger_of, Stands, Ready, BannedAll}
-use Rattle.planned.specs.Reports.{Accepted, Planned, HopelessDay, FaultOf, faulty, hopeless, Outcome}
+use Rattle.planned.specs.Plans.{Stands, Ready, BannedAll}
+use Rattle.planned.specs.Reports.{Accepted, Planned, HopelessDay, FaultOf, faulty, hopeless}
 use Rattle.planned.proofs.Causes.{later}
 use Rattle.planned.proofs.Records.{blank, recs_around, posting_first}
 

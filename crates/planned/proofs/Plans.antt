@@ -1,10 +1,9 @@
 -- A planner that takes the bans one by one. Assumes nothing.
-use Rattle.std.proofs.Common.{◌≡◌, ℕ, ◌+◌, ◌<◌, ◌≤◌, List, [], ◌∷◌, ◌++◌, map, length, get_or, take, drop, reverse, Ok, Err, Result, sym, refl, ap, ◌∙◌, subst, arith}
+use Rattle.std.proofs.Common.{◌≡◌, ℕ, ◌+◌, ◌<◌, ◌≤◌, List, [], ◌∷◌, ◌++◌, map, length, get_or, take, drop, Ok, Err, sym, ap, ◌∙◌, subst}
 use Rattle.std.proofs.lemmas.List.{take_all, reverse-append}
 use Rattle.tickets.specs.Refusals.{Answers, Clear}
-use Rattle.tickets.specs.Collections.{held, terms_of, posted}
+use Rattle.tickets.specs.Collections.{held, posted}
 use Rattle.tickets.specs.Planner.{number_of}
-use Rattle.tickets.specs.declared.ticket.Ticket.{Ticket}
 use Rattle.tickets.specs.declared.collection.Collection.{Collection}
 use Rattle.tickets.specs.declared.planner_refusal.PlannerRefusal.{PlannerRefusal}
 use Rattle.ticket_file.specs.declared.record.Placed.{Placed}
@@ -19,8 +18,8 @@ use Rattle.stores.specs.declared.bit_store.BitStore.{BitStore}
 use Rattle.runs.specs.Supports.{setting}
 use Rattle.runs.specs.Orders.{Order, less, ban as ban_order, ordered}
 use Rattle.runs.specs.Ledger.{write}
-use Rattle.runs.specs.Planner.{State, Answer, Meets, Takes, bans, Means, takes, refuses, asked, meaning, with_table}
-use Rattle.runs.specs.Whole.{History, longer, told}
+use Rattle.runs.specs.Planner.{State, Meets, bans, Means, takes, refuses, asked, meaning, with_table}
+use Rattle.runs.specs.Whole.{longer}
 use Rattle.runs.specs.declared.call.Call.TheVariants.{Ban}
 use Rattle.runs.specs.declared.call.Taken.TheVariants.{Done}
 use Rattle.planner.specs.declared.state.Planner.{Planner}
@@ -28,11 +27,10 @@ use Rattle.planner.specs.States.{setting_of, state_of}
 use Rattle.planner.specs.Calls.{Moved}
 use Rattle.planned.specs.declared.fault.Fault.{Fault}
 use Rattle.planned.specs.declared.fault.Refusal.TheVariants.{Planner as OfPlanner}
-use Rattle.planned.specs.Judging.{Cause, collecting, planning, Posts, order, orders, orders_table, banned, judge}
-use Rattle.planned.specs.Records.{recs, FirstRefused}
-use Rattle.planned.specs.Plans.{Judged, ledger_of, Stands, Ready, BannedAll}
+use Rattle.planned.specs.Judging.{Cause, collecting, planning, Posts, order, orders, banned, judge}
+use Rattle.planned.specs.Records.{recs}
+use Rattle.planned.specs.Plans.{Judged, Stands, Ready, BannedAll}
 use Rattle.planned.proofs.Tickets.{same_tickets}
-use Rattle.planned.proofs.Causes.{low, high}
 use Rattle.planned.proofs.AfterBans.{held_at_ban}
 use Rattle.planned.proofs.Records.{blank, around, recs_around, one_more, takes_none}
 

@@ -1,7 +1,6 @@
 -- Posting the records one by one. Assumes nothing.
-use Rattle.std.proofs.Common.{◌≡◌, ℕ, ◌+◌, ◌<◌, ◌≤◌, List, [], ◌∷◌, ◌++◌, map, length, get_or, take, drop, Ok, Err, sym, refl, ap, ◌∙◌, subst, append_assoc, arith, length-append, take-append-drop}
+use Rattle.std.proofs.Common.{◌≡◌, ℕ, ◌+◌, ◌<◌, ◌≤◌, List, [], ◌∷◌, ◌++◌, length, get_or, take, drop, Ok, Err, sym, ap, ◌∙◌, subst, append_assoc, arith, length-append, take-append-drop}
 use Rattle.std.proofs.lemmas.List.{take_more, drop_more, take_all, map-append}
-use Rattle.tickets.specs.Refusals.{Answers, Clear}
 use Rattle.tickets.specs.Collections.{held}
 use Rattle.tickets.specs.declared.collection.Collection.{Collection}
 use Rattle.tickets.specs.declared.refusal.TicketRefusal.{TicketRefusal}
@@ -11,7 +10,7 @@ use Rattle.ticket_file.specs.Format.{Rec, ticket, ceiling, ban, kinds, Begins}
 use Rattle.ticket_file.specs.Faults.{Judge, Taken}
 use Rattle.ticket_file.specs.Readings.{plain}
 use Rattle.ticket_file.proofs.Judged.{takes_more}
-use Rattle.day.specs.Judging.{Gathered, nothing, with_record, gather, judging, posting, Refuses}
+use Rattle.day.specs.Judging.{Gathered, nothing, with_record, gather, posting, Refuses}
 use Rattle.day.proofs.Gathering.{gather_push}
 use Rattle.planned.specs.declared.fault.Fault.{Fault}
 use Rattle.planned.specs.Judging.{Cause, collecting, planning, judge}

@@ -1,9 +1,8 @@
 -- A file has one verdict: one largest table, or one fault. Assumes nothing.
-use Rattle.std.proofs.Common.{◌≡◌, ℕ, Bool, true, false, List, ◌∷◌, [], ◌++◌, Some, None, vec_items, sym, refl, ap, ◌∙◌, subst, inl, inr, ⊎_elim, append_assoc, arith}
+use Rattle.std.proofs.Common.{◌≡◌, ℕ, Bool, true, false, List, ◌∷◌, [], ◌++◌, Some, None, vec_items, sym, refl, ap, ◌∙◌, subst, inl, inr, ⊎_elim, append_assoc}
 use mathlib.Core.Path.{fun_ext}
 use Rattle.std.proofs.lemmas.Bool.{cases_Bool}
 use Rattle.tickets.specs.declared.ticket.Ticket.{Ticket}
-use Rattle.tickets.specs.declared.planner_refusal.PlannerRefusal.TheVariants.{Hopeless}
 use Rattle.ticket_file.specs.Format.{Rec}
 use Rattle.ticket_file.specs.Faults.{Faulty}
 use Rattle.ticket_file.proofs.Unique.{injective}
@@ -18,7 +17,7 @@ use Rattle.planned.specs.declared.fault.Refusal.TheVariants.{File, Ticket as OfT
 use Rattle.planned.specs.declared.report.Report.{Report}
 use Rattle.planned.specs.Judging.{orders_table, judge, reason}
 use Rattle.planned.specs.Texts.{fault_text, fault_line}
-use Rattle.planned.specs.Reports.{Accepted, Planned, HopelessDay, FaultOf, faulty, hopeless, Reported}
+use Rattle.planned.specs.Reports.{Accepted, Planned, FaultOf, faulty, hopeless, Reported}
 use Rattle.planned.proofs.Tickets.{same_tickets}
 use Rattle.planned.proofs.Causes.{later, apart}
 

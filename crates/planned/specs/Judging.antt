@@ -1,6 +1,5 @@
 -- How the contents of a ticket file are judged on the way to a planner. Assumes nothing.
 use Rattle.std.specs.Prelude.{◌≡◌, ℕ, List, map, reverse}
-use Rattle.tickets.specs.Refusals.{Meaning}
 use Rattle.tickets.specs.Collections.{terms_of, meaning}
 use Rattle.tickets.specs.Planner.{number_of}
 use Rattle.tickets.specs.declared.ticket.Ticket.{Ticket}

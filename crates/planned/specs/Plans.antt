@@ -17,7 +17,7 @@ use Rattle.planner.specs.States.{setting_of, state_of}
 use Rattle.planner.specs.Calls.{Moved}
 use Rattle.planned.specs.declared.fault.Fault.{Fault}
 use Rattle.planned.specs.declared.fault.Refusal.TheVariants.{Planner as OfPlanner}
-use Rattle.planned.specs.Judging.{Cause, planning, orders, banned, judge}
+use Rattle.planned.specs.Judging.{planning, orders, banned, judge}
 use Rattle.planned.specs.Records.{recs, FirstRefused}
 
 -- the record r at the place p was judged by the planner m, and n is left: a ban is a call, and other records change nothing

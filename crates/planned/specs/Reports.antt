@@ -1,5 +1,5 @@
 -- What the report on a file is. Assumes nothing.
-use Rattle.std.specs.Prelude.{◌≡◌, ℕ, ◌⊎◌, List, length, Some, None, Ok, Err, vec_items, Result, ⊤}
+use Rattle.std.specs.Prelude.{◌≡◌, ℕ, ◌⊎◌, ◌↔◌, List, length, Some, None, Ok, Err, vec_items, Result, ⊤}
 use Rattle.tickets.specs.Collections.{posted}
 use Rattle.tickets.specs.declared.ticket.Ticket.{Ticket}
 use Rattle.tickets.specs.declared.planner_refusal.PlannerRefusal.TheVariants.{Hopeless}
@@ -8,7 +8,7 @@ use Rattle.ticket_file.specs.Faults.{Taken, Faulty}
 use Rattle.day.specs.Judging.{nothing, gather}
 use Rattle.stores.specs.BitRows.{bit_rows}
 use Rattle.stores.specs.declared.bit_store.BitStore.{BitStore}
-use Rattle.runs.specs.Tables.{Table, NoneWithin, Largest}
+use Rattle.runs.specs.Tables.{Table, Plan, NoneWithin, Largest, Affordable}
 use Rattle.runs.specs.Supports.{setting}
 use Rattle.listing.specs.Listings.{Lists}
 use Rattle.planner.specs.declared.state.Planner.{Planner}
@@ -59,3 +59,12 @@ pub record Reported (file : List ℕ) (x : Report) : Type 0 where
   pub fault :
       (r : Refusal) (p : ℕ) → FaultOf file r p →
       (x.fault ≡ Some (record { refusal = r; place = p })) × (vec_items x.text ≡ fault_line (record { refusal = r; place = p }))
+
+-- No affordable plan of a file is lost: the plans that are affordable in the orders' table are those that are affordable in the table
+-- that is left, and on a hopeless day there is none.
+pub record NoPlanLost (file : List ℕ) : Type 0 where
+  pub planned :
+      (ts : List Ticket) (U : ℕ) (L : Table) (a : Planned file ts U L) (s : Plan) →
+      Affordable (setting ts) U (orders_table ts (gather nothing a.rs)) s ↔ Affordable (setting ts) U L s
+  pub hopeless :
+      (h : HopelessDay file) (s : Plan) → Affordable (setting h.ts) (gather nothing h.rs).held.ceiling (orders_table h.ts (gather nothing h.rs)) s → ⊥

@@ -16,9 +16,8 @@ fn ban(planner: &mut Planner<BitStore>, placed: &Placed<'_>) -> Result<(), Fault
             refusal: Refusal::Planner(refusal),
             place: placed.place,
         };
-        planner
-            .ban(usize::from(ticket), usize::from(start))
-            .map_err(refused)?;
+        let answer = planner.ban(usize::from(ticket), usize::from(start));
+        answer.map_err(refused)?;
     }
     Ok(())
 }

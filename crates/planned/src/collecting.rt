@@ -14,14 +14,11 @@ fn post(collection: &mut Collection, placed: &Placed<'_>) -> Result<(), Fault>
         place: placed.place,
     };
     match placed.record {
-        Record::Ticket { terms, label: _ } => {
+        Record::Ticket { terms, .. } => {
             collection.post(terms).map_err(refused)?;
         }
         Record::Ceiling { ceiling } => collection.set_ceiling(ceiling).map_err(refused)?,
-        Record::Ban {
-            ticket: _,
-            start: _,
-        } => {}
+        Record::Ban { .. } => {}
     }
     Ok(())
 }

@@ -1,5 +1,5 @@
 ghost use Rattle.std.specs.Prelude.{IfOk};
-ghost use Rattle.planned.specs.Reports.{Reported};
+ghost use Rattle.planned.specs.Reports.{Reported, NoPlanLost};
 
 use crate::fault::Fault;
 use crate::listing_text::listing_text;
@@ -14,8 +14,10 @@ pub struct Report {
 }
 
 /// The report on a ticket file.
+#[tactic(auto, using(crate::proofs::Affordables::no_plan_lost))]
 pub fn report_on(heap: Global, file: &[u8]) -> Result<Report, AllocError>
-    ensures { IfOk result (λ x. Reported file.now x) }
+    ensures report { IfOk result (λ x. Reported file.now x) }
+    ensures plans { NoPlanLost file.now }
 {
     match plan(heap, file) {
         Ok(planner) => Ok(Report {
