@@ -15,6 +15,7 @@ use Rattle.day.specs.Judging.{Gathered, nothing, with_record, gather, posting}
 use Rattle.day.proofs.Gathering.{gather_push}
 use Rattle.stores.specs.BitRows.{bit_rows}
 use Rattle.stores.specs.declared.bit_store.BitStore.{BitStore}
+use Rattle.runs.specs.Tables.{Setting}
 use Rattle.runs.specs.Supports.{setting}
 use Rattle.runs.specs.Orders.{Order, less, ban as ban_order, ordered}
 use Rattle.runs.specs.Ledger.{write}
@@ -38,19 +39,20 @@ use Rattle.planned.proofs.Records.{blank, around, recs_around, one_more, takes_n
 orders_more : (g : Gathered) (i t : ℕ) → orders (with_record g (ban i t)) ≡ ban_order i t ∷ orders g
 orders_more g i t = ap (map order) (reverse-append g.bans ((i, t) ∷ []))
 
--- what a ban that is taken leaves, and that nothing refuses it
-ban_taken : (m n : Planner BitStore) (i t : ℕ) → Means (setting_of m) (state_of bit_rows m) (Ban i t) (Ok Done) (state_of bit_rows n) → Clear (meaning (setting_of m)) (asked (state_of bit_rows m) (Ban i t)) × (state_of bit_rows n ≡ with_table (state_of bit_rows m) (less (ban_order i t) (state_of bit_rows m).standing))
-ban_taken m n i t (takes clear (bans is)) = (clear, is)
+-- what a ban comes to, by its meaning
+module _ (w : Setting) (s s' : State) (i t : ℕ) where
+  ban_taken : Means w s (Ban i t) (Ok Done) s' → Clear (meaning w) (asked s (Ban i t)) × (s' ≡ with_table s (less (ban_order i t) s.standing))
+  ban_taken (takes clear (bans is)) = (clear, is)
 
-ban_refused : (m n : Planner BitStore) (i t : ℕ) (e : PlannerRefusal) → Means (setting_of m) (state_of bit_rows m) (Ban i t) (Err e) (state_of bit_rows n) → Answers (meaning (setting_of m)) (asked (state_of bit_rows m) (Ban i t)) e
-ban_refused m n i t e (takes clear done) = elim done [ ]
-ban_refused m n i t e (refuses answers is) = answers
+  ban_refused : (e : PlannerRefusal) → Means w s (Ban i t) (Err e) s' → Answers (meaning w) (asked s (Ban i t)) e
+  ban_refused e (takes clear done) = elim done [ ]
+  ban_refused e (refuses answers is) = answers
 
 -- the planner takes one ban more
 stands_more : (g : Gathered) (m n : Planner BitStore) (i t : ℕ) → Stands g m → Moved bit_rows m (Ban i t) (Ok Done) n → Stands (with_record g (ban i t)) n
 stands_more g m n i t s moved =
     let ts = posted m.collection in
-    let is = (ban_taken m n i t moved.means).1 in
+    let is = (ban_taken (setting_of m) (state_of bit_rows m) (state_of bit_rows n) i t moved.means).1 in
     let more : List Order = ban_order i t ∷ orders g in
     let then : state_of bit_rows n ≡ banned ts (with_record g (ban i t)) =
     is ∙ ap (λ (x : State). with_table x (less (ban_order i t) x.standing)) s.state ∙ ap (λ os. with_table (banned ts g) (ordered (setting ts) os)) (sym (orders_more g i t))
@@ -118,7 +120,7 @@ step all before after (ceiling v) are begins posts m n p u s same =
     other (collecting e) h = posts before after (ceiling v) are e h
     other (planning e) h = h
 step all before after (ban i t) are begins posts m n p u s moved = (
-  ban_clear all before after i t are begins m s (ban_taken m n i t moved.means).0,
+  ban_clear all before after i t are begins m s (ban_taken (setting_of m) (state_of bit_rows m) (state_of bit_rows n) i t moved.means).0,
   subst (λ g. Stands (record { held = (gather nothing all).held; bans = g.bans }) n) (sym (gather_push nothing before (ban i t))) (stands_more (ending all before) m n i t s moved),
 )
 
@@ -128,7 +130,7 @@ stop :
     Stands (ending all before) m → Judged m r p (Err f) n → (e : PlannerRefusal) × Answers judge (before, r) (planning e) × (f ≡ record { refusal = OfPlanner e; place = p })
 stop all before after (ticket x label) are begins m n p f s h = absurd h
 stop all before after (ceiling v) are begins m n p f s h = absurd h
-stop all before after (ban i t) are begins m n p f s (e, moved, at) = (e, ban_answers all before after i t are begins m s e (ban_refused m n i t e moved.means), at)
+stop all before after (ban i t) are begins m n p f s (e, moved, at) = (e, ban_answers all before after i t are begins m s e (ban_refused (setting_of m) (state_of bit_rows m) (state_of bit_rows n) i t e moved.means), at)
 
 -- the first k records are taken, their bans by the planner m
 abbrev pub Sofar : List Placed → ℕ → Planner BitStore → Type 0

@@ -11,11 +11,16 @@ fn day_one(heap: Global, low: u8, records: &[u8]) -> Result<Vec<u8>, AllocError>
     Ok(file)
 }
 
-/// Whether the report on that file is this text.
+/// Whether the report on a file is this text.
+fn reports(heap: Global, file: &[u8], text: &[u8]) -> Result<bool, AllocError> {
+    let report = report_on(heap, file)?;
+    Ok(report.text.as_slice() == text)
+}
+
+/// Whether the report on day one, with this low byte and these records, is this text.
 fn prints(heap: Global, low: u8, records: &[u8], text: &[u8]) -> Result<bool, AllocError> {
     let file = day_one(heap, low, records)?;
-    let report = report_on(heap, &file)?;
-    Ok(report.text.as_slice() == text)
+    reports(heap, &file, text)
 }
 
 #[test]
@@ -26,6 +31,13 @@ fn listings(rt: HostRuntime) -> Result<(), AllocError> {
     assert!(rt; prints(heap, 116, &[66, 2, 2, 8], text)?);
     let text = b"floor 362\nceiling 372\n0 0-0\n1 4-5\n2 5-5 7-7\n3 13-14\n";
     assert!(rt; prints(heap, 116, &[66, 2, 2, 6], text)?);
+    let day_two = [
+        82, 80, 81, 1, 0, 84, 5, 0, 4, 4, 1, 0, 84, 5, 1, 3, 1, 3, 0, 67, 4, 14, 0, 0, 0,
+    ];
+    let text = b"floor 12\nceiling 14\n0 2-4\n1 1-1\n";
+    assert!(rt; reports(heap, &day_two, text)?);
+    let no_tickets = [82, 80, 81, 1, 0, 67, 4, 0, 0, 0, 0];
+    assert!(rt; reports(heap, &no_tickets, b"floor 0\nceiling 0\n")?);
     Ok(())
 }
 
