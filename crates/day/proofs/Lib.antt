@@ -1,3 +1,3 @@
-mod Gathering
+pub mod Gathering
 mod Lines
 mod Outcomes

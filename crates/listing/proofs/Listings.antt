@@ -19,7 +19,7 @@ one_listing ts u R a b p q =
     p.is ∙ ap (λ x. listing_text x u p.ranges) f ∙ ap (listing_text q.floor u) r ∙ sym q.is
 
 -- nothing is refused but a buffer that is too short
-only_short : (a : Asked) (e : PlannerRefusal) → (meaning e).meets a → Shorter a × ((meaning e).number ≡ 17)
+pub only_short : (a : Asked) (e : PlannerRefusal) → (meaning e).meets a → Shorter a × ((meaning e).number ≡ 17)
 only_short a NoSuchTicket h = absurd h
 only_short a NoSuchStart h = absurd h
 only_short a OnlyStart h = absurd h
