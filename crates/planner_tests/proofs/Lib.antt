@@ -1,0 +1,3 @@
+mod Tries
+mod Standing
+mod Verdicts

@@ -1,0 +1,27 @@
+-- Plans judged by the orders. Assumes nothing.
+use Rattle.std.specs.Prelude.{◌≡◌, ℕ, List, length, Ok, Err, Result}
+use Rattle.tickets.specs.Collections.{posted}
+use Rattle.tickets.specs.declared.planner_refusal.PlannerRefusal.{PlannerRefusal}
+use Rattle.stores.specs.Sets.{Rows}
+use Rattle.spreads.specs.Plans.{cost}
+use Rattle.queries.specs.Judging.{starts}
+use Rattle.runs.specs.Tables.{Plan, Setting, Affordable}
+use Rattle.runs.specs.Ledger.{Ledger, orders_table}
+use Rattle.runs.specs.Whole.{History, Reached, told}
+use Rattle.planner.specs.declared.state.Planner.{Planner}
+use Rattle.planner.specs.States.{setting_of, state_of}
+
+-- the plan is affordable in the orders' table
+abbrev pub Afforded : Setting → Ledger → Plan → Type 0
+Afforded w L s = Affordable w L.ceiling (orders_table w L) s
+
+-- so after every history that leads to p
+abbrev pub AffordedByOrders : {S : Type 0} → (S → Rows) → Planner S → List ℕ → Type 0
+AffordedByOrders rows p plan = (h : History) → Reached (setting_of p) h (state_of rows p) → Afforded (setting_of p) (told h) (starts plan)
+
+-- the plan is taken, with its cost, and the orders' table affords it after every history that leads to p; or it is refused, and has
+-- not a start for each ticket or is not affordable there
+abbrev pub JudgedByOrders : {S : Type 0} → (S → Rows) → Planner S → List ℕ → Result ℕ PlannerRefusal → Type 0
+JudgedByOrders rows p plan (Ok c) = (c ≡ cost (posted p.collection) (starts plan)) × AffordedByOrders rows p plan
+JudgedByOrders rows p plan (Err e) =
+    (h : History) → Reached (setting_of p) h (state_of rows p) → length plan ≡ length (posted p.collection) → Afforded (setting_of p) (told h) (starts plan) → ⊥

@@ -1,0 +1,31 @@
+//! Judging by the orders: what is judged by the standing rows is so by the orders' table.
+ghost use Rattle.std.specs.Prelude.{IfOk};
+ghost use Rattle.planner_tests.specs.Judging.{JudgedByOrders, AffordedByOrders};
+
+use planner::Planner;
+use queries::Table;
+use stores::Store;
+use tickets::PlannerRefusal;
+
+/// What the plan costs, where the orders and the ceiling afford it.
+pub fn judge<S: Store>(planner: &Planner<S>, plan: &[u16]) -> Result<u32, PlannerRefusal>
+    ensures { JudgedByOrders S.rows planner.now plan.now result }
+{
+    let table = Table {
+        collection: planner.collection(),
+        store: planner.store(),
+    };
+    table.judge(planner.ceiling(), plan)
+}
+
+/// Prunes, and judges the plan by the rows that are left.
+pub fn prune_and_judge<S: Store>(
+    planner: &mut Planner<S>,
+    cuts: &mut [u16],
+    plan: &[u16],
+) -> Result<u32, PlannerRefusal>
+    ensures { IfOk result (λ _. AffordedByOrders S.rows planner.old plan.now) }
+{
+    planner.prune(cuts)?;
+    judge(planner, plan)
+}
