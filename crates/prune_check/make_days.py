@@ -7,16 +7,20 @@ starts are left, and each of them. Nothing here follows the planner: spreads are
 table is priced again until a pass over all of them cuts nothing.
 """
 import os
+import random
 import sys
 
 SCALE = 720720
 HERE = os.path.dirname(os.path.abspath(__file__))
 EXAMPLES = os.path.join(HERE, "..", "..", "examples")
 
-# many rounds: weights, and the starts below which each row is banned
-WORST_WEIGHTS = []
-WORST_FIRSTS = []
-WORST_CEILING = 0
+# many rounds: 24 tickets with the rows 0 to 255 and the length 16; the weight of each, and how many of its first starts are banned
+WORST = [(295, 25), (148, 28), (270, 30), (171, 237), (244, 43), (212, 38), (215, 135), (205, 43), (83, 53), (179, 29), (263, 65), (263, 62), (0, 43), (58, 54), (986, 141), (739, 65), (45, 16), (82, 36), (677, 84), (97, 20), (92, 61), (0, 150), (0, 3), (15, 78)]
+WORST_CEILING = 780141
+
+# no bans: whatever the weights, two rounds are all; the ceiling is the one that leaves the most starts to be priced
+WIDE = [484, 987, 976, 999, 949, 904, 988, 964, 904, 936, 954, 975, 920, 967, 924, 964, 931, 932, 971, 929, 954, 992, 969, 969]
+WIDE_CEILING = 4509691
 
 
 def price(tickets, releases, i, t):
@@ -66,8 +70,42 @@ def ticket_file(tickets, ceiling, bans):
     return bytes(out)
 
 
+def ordinary():
+    """A full day: 24 tickets, laid end to end, each with a row about its start. 137331 is the least ceiling that is not hopeless."""
+    rng = random.Random(24)
+    tickets, slot = [], 0
+    for _ in range(24):
+        p, w = rng.randint(4, 15), rng.randint(1, 100)
+        first, last = max(0, slot - rng.randint(5, 40)), min(255, slot + rng.randint(5, 40))
+        tickets.append((first, last, p, w))
+        slot += p + rng.randint(0, 1)
+    return tickets, 138704
+
+
 def days():
-    worst = [(0, 255, 16, w) for w in WORST_WEIGHTS]
-    yield "worst-day", worst, WORST_CEILING, {(i, t) for i, f in enumerate(WORST_FIRSTS) for t in range(f)}
-    yield "full-slack-day", worst, FULL_CEILING, set()
-    yield "ordinary-day", ORDINARY, ORDINARY_CEILING, set()
+    day = lambda weights: [(0, 255, 16, w) for w in weights]
+    yield "worst-day", day([w for w, _ in WORST]), WORST_CEILING, {(i, t) for i, (_, f) in enumerate(WORST) for t in range(f)}
+    yield "wide-day", day(WIDE), WIDE_CEILING, set()
+    yield "ordinary-day", *ordinary(), set()
+
+
+def main():
+    lines = []
+    for name, tickets, ceiling, bans in days():
+        rows, passes, priced = pruned(tickets, ceiling, bans)
+        before = sum(l - f + 1 for (f, l, _, _) in tickets) - len(bans)
+        words = [len(tickets)] + [x for ticket in tickets for x in ticket] + [ceiling, len(bans)]
+        words += [x for ban in sorted(bans) for x in ban]
+        words.append(before - sum(map(len, rows)))
+        for row in rows:
+            words += [len(row)] + row
+        lines.append(" ".join(map(str, words)))
+        print(f"{name}: {before} starts, {sum(map(len, rows))} left, {passes} passes, {priced} starts priced", file=sys.stderr)
+        with open(os.path.join(EXAMPLES, name + ".rpq"), "wb") as out:
+            out.write(ticket_file(tickets, ceiling, bans))
+    with open(os.path.join(HERE, "stdin"), "w") as out:
+        out.write("\n".join([str(len(lines))] + lines) + "\n")
+
+
+if __name__ == "__main__":
+    main()
