@@ -1,5 +1,7 @@
+use crate::judging::{judge, prune_and_judge};
+use crate::plans;
 use crate::trying::what_if;
-use planner::{Planner, Token};
+use planner::{Planner, Token, TokenRefused};
 use queries::Table;
 use std::process::Abort;
 use std::test::Fail;
@@ -28,8 +30,8 @@ fn day_one_tickets() -> [Terms; 4] {
 /// A word that is no cut.
 const NO_CUT: u16 = u16::MAX;
 
-/// A planner of these tickets under this ceiling, with the stamp 7.
-fn sealed(tickets: &[Terms], ceiling: u32) -> Result<Planner<BitStore>, Fail> {
+/// A collection of these tickets under this ceiling.
+fn posted(tickets: &[Terms], ceiling: u32) -> Result<Collection, Fail> {
     let mut collection = Collection::new();
     for terms in tickets {
         collection
@@ -39,7 +41,12 @@ fn sealed(tickets: &[Terms], ceiling: u32) -> Result<Planner<BitStore>, Fail> {
     collection
         .set_ceiling(ceiling)
         .map_err(|_| Fail::new("the ceiling is refused"))?;
-    Ok(Planner::seal(collection, BitStore::empty(), 7))
+    Ok(collection)
+}
+
+/// A planner of these tickets under this ceiling, with the stamp 7.
+fn sealed(tickets: &[Terms], ceiling: u32) -> Result<Planner<BitStore>, Fail> {
+    Ok(Planner::seal(posted(tickets, ceiling)?, BitStore::empty(), 7))
 }
 
 /// The row has the starts from each first to its last, and no others.
@@ -156,12 +163,12 @@ fn one_late_ticket(rt: HostRuntime) -> Result<(), Fail> {
 
 /// Marks where a level is free.
 fn marked(planner: &mut Planner<BitStore>) -> Result<Token, Fail> {
-    planner.mark().map_err(|_| Fail::new("a mark is refused"))
+    plans::mark(planner).map_err(|_| Fail::new("a mark is refused"))
 }
 
-/// Undoes the newest level.
-fn undone(rt: &impl Abort, planner: &mut Planner<BitStore>, token: Token) {
-    match planner.undo(token) {
+/// The token was spent.
+fn spent(rt: &impl Abort, answer: Result<(), TokenRefused>) {
+    match answer {
         Ok(()) => {}
         Err(_refused) => panic!(rt; "the token is refused"),
     }
@@ -185,7 +192,7 @@ fn calls_on_day_two(rt: HostRuntime) -> Result<(), Fail> {
     assert_eq!(rt; planner.ban(1, 1), Err(PlannerRefusal::OnlyStart));
     assert_eq!(rt; planner.lower(14), Err(PlannerRefusal::CeilingNotLower));
     assert_eq!(rt; planner.lower(13), Ok(()));
-    undone(&rt, &mut planner, token);
+    spent(&rt, planner.undo(token));
     assert_eq!(rt; planner.ceiling(), 13);
     same_row(&rt, planner.store(), 0, &[(0, 4)]);
     same_row(&rt, planner.store(), 1, &[(1, 3)]);
@@ -194,5 +201,31 @@ fn calls_on_day_two(rt: HostRuntime) -> Result<(), Fail> {
     same_cuts(&rt, &cuts, &[0, 1, 4, 258, 259]);
     same_row(&rt, planner.store(), 0, &[(2, 3)]);
     same_row(&rt, planner.store(), 1, &[(1, 1)]);
+    Ok(())
+}
+
+#[test]
+fn calls_that_keep_plans(rt: HostRuntime) -> Result<(), Fail> {
+    let collection = posted(&day_one_tickets(), 372)?;
+    let mut cuts = [NO_CUT; 20];
+    let (mut planner, answer) = plans::seal_and_prune(collection, BitStore::empty(), 7, &mut cuts);
+    assert_eq!(rt; answer, Ok(16));
+    let plan = [0, 5, 7, 13];
+    assert_eq!(rt; judge(&planner, &plan), Ok(372));
+    let token = marked(&mut planner)?;
+    assert_eq!(rt; plans::ban(&mut planner, 2, 6), Ok(()));
+    spent(&rt, plans::keep(&mut planner, token));
+    let token = marked(&mut planner)?;
+    assert_eq!(rt; plans::fix(&mut planner, 2, 5), Ok(()));
+    assert_eq!(rt; judge(&planner, &plan), Err(PlannerRefusal::NoSuchStart));
+    spent(&rt, plans::undo(&mut planner, token));
+    assert_eq!(rt; prune_and_judge(&mut planner, &mut cuts, &plan), Ok(372));
+    assert_eq!(rt; plans::lower(&mut planner, 371), Ok(()));
+    assert_eq!(rt; judge(&planner, &plan), Err(PlannerRefusal::CostTooHigh));
+    assert_eq!(rt;
+        plans::prune(&mut planner, &mut cuts),
+        Err(PlannerRefusal::Hopeless)
+    );
+    same_row(&rt, planner.store(), 2, &[(5, 5), (7, 7)]);
     Ok(())
 }
