@@ -8,6 +8,7 @@ use Rattle.runs.specs.Whole.{History, longer, Reached, told}
 use Rattle.runs.specs.declared.call.Call.{Call}
 use Rattle.planner.specs.declared.state.Planner.{Planner}
 use Rattle.planner.specs.States.{setting_of, state_of}
+use Rattle.planner.specs.Calls.{Moved}
 
 -- each start of each plan that is affordable in O stands in T
 abbrev pub Keeps : Setting → ℕ → Table → Table → Type 0
@@ -21,3 +22,8 @@ KeepsOrders w L T = Keeps w L.ceiling (orders_table w L) T
 -- in the orders' table stands in q
 abbrev pub PlansStand : {S : Type 0} → (S → Rows) → Planner S → Call → Answer → Planner S → Type 0
 PlansStand rows p c a q = (h : History) → Reached (setting_of p) h (state_of rows p) → KeepsOrders (setting_of q) (told (longer h c a)) (rows q.store)
+
+-- the call was made, and each plan that is affordable in the orders' table stands
+pub record Called {S : Type 0} (rows : S → Rows) (p : Planner S) (c : Call) (a : Answer) (q : Planner S) : Type 0 where
+  pub made : Moved rows p c a q
+  pub plans : PlansStand rows p c a q
