@@ -64,8 +64,11 @@ module _ {S : Type 0} (rows : S → Rows) (p : Planner S) (plan : List ℕ) wher
   -- the orders are those before a prune
   pub judged_after :
       (q : Planner S) (old new : List ℕ) (k : ℕ) (r : Result ℕ PlannerRefusal) → Pruned rows p old (Ok k) q new → JudgedByOrders rows q plan r →
-      IfOk r (λ _. AffordedByOrders rows p plan)
-  judged_after q old new k (Ok c) prune j = λ h led.
-      subst (λ d. Afforded (setting (posted d)) (told h) (starts plan)) prune.moved.collection
-      (j.1 (longer h (Prune (length old)) (Ok (Cut k))) (prune.moved.onward h led).reached)
+      IfOk r (λ c. (c ≡ cost (posted p.collection) (starts plan)) × AffordedByOrders rows p plan)
+  judged_after q old new k (Ok c) prune j = (
+    subst (λ d. c ≡ cost (posted d) (starts plan)) prune.moved.collection j.0,
+    λ h led.
+        subst (λ d. Afforded (setting (posted d)) (told h) (starts plan)) prune.moved.collection
+        (j.1 (longer h (Prune (length old)) (Ok (Cut k))) (prune.moved.onward h led).reached),
+  )
   judged_after q old new k (Err e) prune j = tt

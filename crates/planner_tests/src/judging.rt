@@ -1,5 +1,8 @@
 //! Judging by the orders: what is judged by the standing rows is so by the orders' table.
-ghost use Rattle.std.specs.Prelude.{IfOk};
+ghost use Rattle.std.specs.Prelude.{◌≡◌, IfOk};
+ghost use Rattle.tickets.specs.Collections.{posted};
+ghost use Rattle.spreads.specs.Plans.{cost};
+ghost use Rattle.queries.specs.Judging.{Judged, starts};
 ghost use Rattle.planner_tests.specs.Judging.{JudgedByOrders, AffordedByOrders};
 
 use planner::Planner;
@@ -9,7 +12,8 @@ use tickets::PlannerRefusal;
 
 /// What the plan costs, where the orders and the ceiling afford it.
 pub fn judge<S: Store>(planner: &Planner<S>, plan: &[u16]) -> Result<u32, PlannerRefusal>
-    ensures { JudgedByOrders S.rows planner.now plan.now result }
+    ensures judged { Judged (posted planner.now.collection) planner.now.ceiling (S.rows planner.now.store) plan.now result }
+    ensures by_orders { JudgedByOrders S.rows planner.now plan.now result }
 {
     let table = Table {
         collection: planner.collection(),
@@ -24,7 +28,7 @@ pub fn prune_and_judge<S: Store>(
     cuts: &mut [u16],
     plan: &[u16],
 ) -> Result<u32, PlannerRefusal>
-    ensures { IfOk result (λ _. AffordedByOrders S.rows planner.old plan.now) }
+    ensures { IfOk result (λ c. (c ≡ cost (posted planner.old.collection) (starts plan.now)) × AffordedByOrders S.rows planner.old plan.now) }
 {
     planner.prune(cuts)?;
     judge(planner, plan)

@@ -2,4 +2,4 @@ use Rattle.planner_tests.proofs.Verdicts.{judged_after}
 use Rattle.planner_tests.proofs.judging.prune_and_judge.Goals as goal
 
 pub returns : goal.returns
-returns g c = judged_after g.S.Store.rows c.args.planner.now c.args.plan.now _ _ _ _ _ c.in_ok-prune.ensures c.judge.ensures
+returns g c = judged_after g.S.Store.rows c.args.planner.now c.args.plan.now _ _ _ _ _ c.in_ok-prune.ensures c.judge.ensures.by_orders
