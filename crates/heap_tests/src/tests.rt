@@ -9,6 +9,8 @@ use std::test::Fail;
 #[derive(Clone, Copy, PartialEq, Eq, PartialOrd, Ord)]
 struct Number(u16);
 
+// Each kind of entry shows its own law `apart`, so no one impl is for all that are their own keys.
+
 impl Entry for Number {
     type Key = Number;
 

@@ -25,6 +25,8 @@ pub(crate) struct Listing<'a, S> {
 }
 
 impl<'a, S: Store> Listing<'a, S> {
+    // The ceiling is no part of a table: its prices do not know one.
+
     /// What the listing of a table shows.
     pub(crate) fn of(table: &Table<'a, S>, ceiling: u32) -> Self
         ensures { (text : List ℕ) → TextOf result.floor result.ceiling (S.rows result.store.now) result.count text → Lists (posted table.now.collection.now) ceiling (S.rows table.now.store.now) text }
@@ -36,6 +38,8 @@ impl<'a, S: Store> Listing<'a, S> {
             count: table.collection.tickets().len(),
         }
     }
+
+    // How much room there must be hangs on the text that comes, so each text's clause says it.
 
     /// Writes the text.
     fn write<W: Sink>(&self, out: &mut W)

@@ -6,6 +6,8 @@ use crate::range::Range;
 use crate::sink::Sink;
 use itoa::{Buffer, Integer};
 
+// How much room there must be hangs on the text that comes, so each text's clause says it.
+
 /// Writes a number.
 pub(crate) fn write_number<W: Sink, I: Integer>(out: &mut W, n: I)
     requires { length (I.text n) ≤ W.room out.old }

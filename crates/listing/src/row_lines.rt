@@ -23,6 +23,8 @@ fn next_range<S: Store>(store: &S, row: usize, from: usize) -> Option<Range>
     })
 }
 
+// How much room there must be hangs on the text that comes, so each text's clause says it.
+
 /// Writes the ranges of a row.
 fn write_ranges<W: Sink, S: Store>(out: &mut W, store: &S, row: usize)
     requires { HasRoom (RangesOf (S.rows store.now row)) (W.room out.old) }

@@ -6,6 +6,8 @@ use std::fmt;
 use ticket_file::{FileFault, FileRefusal};
 use tickets::{PlannerRefusal, TicketRefusal};
 
+// Not day's types with a case more: day's contract speaks of its two layers.
+
 /// Why a file is refused, by the layer that refuses it.
 #[derive(Clone, Copy, Debug, PartialEq)]
 pub enum Refusal {

@@ -12,6 +12,8 @@ use stores::{BitStore, ROWS, STARTS};
 /// No planner has more starts to cut.
 const MOST_CUTS: usize = ROWS * STARTS;
 
+// Like the error of `day`, which is private there and has day's own fault in it.
+
 /// Why a file comes to no pruned planner.
 #[derive(Clone, Copy)]
 pub(crate) enum PlanError {
@@ -48,6 +50,7 @@ pub(crate) fn plan(heap: Global, file: &[u8]) -> Result<Planner<BitStore>, PlanE
         return Err(Fault::from(fault).into());
     }
     let mut cuts = [0; MOST_CUTS];
+    // A `match` and no `?`: neither arm hands on what the prune answered.
     match planner.prune(&mut cuts) {
         Ok(_) => Ok(planner),
         Err(refusal) => Err(PlanError::Refused(Fault {

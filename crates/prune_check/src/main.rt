@@ -9,6 +9,8 @@ use std::slice::Iter;
 use stores::{BitStore, ROWS, STARTS, Store};
 use tickets::{Collection, Terms};
 
+// As in `price_check`: the two programs share these readers of numbers, and no crate is made for them.
+
 /// The next number of the file.
 fn next(numbers: &mut Iter<u64>) -> anyhow::Result<u64> {
     numbers.next().copied().context("the file ends too soon")

@@ -21,6 +21,8 @@ pub enum FileRefusal {
 }
 
 impl FileRefusal {
+    // Not one method of a trait for all layers: each answers by its own layer's definition.
+
     /// The number by which the refusal is known outside.
     pub fn number(self) -> u8
         ensures { result ≡ (fault no_judge (form self)).number }

@@ -29,6 +29,8 @@ pub enum PlannerRefusal {
 }
 
 impl PlannerRefusal {
+    // Not one method of a trait for all layers: each answers by its own layer's definition.
+
     /// The number by which the refusal is known outside.
     pub fn number(self) -> u8
         ensures { result ≡ number_of self }
