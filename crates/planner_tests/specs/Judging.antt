@@ -4,12 +4,13 @@ use Rattle.tickets.specs.Collections.{posted}
 use Rattle.tickets.specs.declared.planner_refusal.PlannerRefusal.{PlannerRefusal}
 use Rattle.stores.specs.Sets.{Rows}
 use Rattle.spreads.specs.Plans.{cost}
-use Rattle.queries.specs.Judging.{starts}
+use Rattle.queries.specs.Judging.{starts, Judged}
 use Rattle.runs.specs.Tables.{Plan, Setting, Affordable}
 use Rattle.runs.specs.Ledger.{Ledger, orders_table}
 use Rattle.runs.specs.Whole.{History, Reached, told}
 use Rattle.planner.specs.declared.state.Planner.{Planner}
 use Rattle.planner.specs.States.{setting_of, state_of}
+use Rattle.planner.specs.Promise.{Pruned}
 
 -- the plan is affordable in the orders' table
 abbrev pub Afforded : Setting → Ledger → Plan → Type 0
@@ -25,3 +26,14 @@ abbrev pub JudgedByOrders : {S : Type 0} → (S → Rows) → Planner S → List
 JudgedByOrders rows p plan (Ok c) = (c ≡ cost (posted p.collection) (starts plan)) × AffordedByOrders rows p plan
 JudgedByOrders rows p plan (Err e) =
     (h : History) → Reached (setting_of p) h (state_of rows p) → length plan ≡ length (posted p.collection) → Afforded (setting_of p) (told h) (starts plan) → ⊥
+
+-- where the prune was taken, r is what the judge answers of the rows and the ceiling of q; where it was refused, r is its refusal
+abbrev pub JudgedAfter : {S : Type 0} → (S → Rows) → Planner S → List ℕ → Result ℕ PlannerRefusal → Result ℕ PlannerRefusal → Type 0
+JudgedAfter rows q plan (Ok k) r = Judged (posted q.collection) q.ceiling (rows q.store) plan r
+JudgedAfter rows q plan (Err e) r = r ≡ Err e
+
+-- p was pruned, lent the list `old`, which left q and the list `new`, and then the plan was judged
+pub record PrunedAndJudged {S : Type 0} (rows : S → Rows) (p : Planner S) (old plan : List ℕ) (r : Result ℕ PlannerRefusal) (q : Planner S) (new : List ℕ) : Type 0 where
+  pub answer : Result ℕ PlannerRefusal
+  pub pruned : Pruned rows p old answer q new
+  pub judged : JudgedAfter rows q plan answer r

@@ -3,7 +3,7 @@ ghost use Rattle.std.specs.Prelude.{◌≡◌, IfOk};
 ghost use Rattle.tickets.specs.Collections.{posted};
 ghost use Rattle.spreads.specs.Plans.{cost};
 ghost use Rattle.queries.specs.Judging.{Judged, starts};
-ghost use Rattle.planner_tests.specs.Judging.{JudgedByOrders, AffordedByOrders};
+ghost use Rattle.planner_tests.specs.Judging.{JudgedByOrders, AffordedByOrders, PrunedAndJudged};
 
 use planner::Planner;
 use queries::Table;
@@ -28,7 +28,8 @@ pub fn prune_and_judge<S: Store>(
     cuts: &mut [u16],
     plan: &[u16],
 ) -> Result<u32, PlannerRefusal>
-    ensures { IfOk result (λ c. (c ≡ cost (posted planner.old.collection) (starts plan.now)) × AffordedByOrders S.rows planner.old plan.now) }
+    ensures made { PrunedAndJudged S.rows planner.old cuts.old plan.now result planner.new cuts.new }
+    ensures by_orders { IfOk result (λ c. (c ≡ cost (posted planner.old.collection) (starts plan.now)) × AffordedByOrders S.rows planner.old plan.now) }
 {
     planner.prune(cuts)?;
     judge(planner, plan)
