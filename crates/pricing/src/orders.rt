@@ -24,6 +24,7 @@ impl Entry for Release {
 }
 
 /// The pinned first, then the greater w / p, then the lower number, then the lower p. A derive, of `PartialOrd` too, would compare w and p.
+/// By `then_with`, since most ranks are told apart by w / p.
 impl Ord for Rank {
     ghost cmp = { rank_cmp };
 
@@ -39,9 +40,9 @@ impl Ord for Rank {
         other
             .pinned
             .cmp(&self.pinned)
-            .then(theirs.cmp(&mine))
-            .then(self.number.cmp(&other.number))
-            .then(self.length.cmp(&other.length))
+            .then_with(|| theirs.cmp(&mine))
+            .then_with(|| self.number.cmp(&other.number))
+            .then_with(|| self.length.cmp(&other.length))
     }
 }
 

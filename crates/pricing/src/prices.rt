@@ -6,7 +6,6 @@ ghost use Rattle.pricing.specs.Works.{Made};
 ghost use Rattle.pricing.specs.Prices.{PinnedAnswer, Floor, start_of, first_starts};
 
 use crate::work::{Work, Works};
-use arrayvec::ArrayVec;
 use std::array;
 use tickets::{Collection, MOST_TICKETS, PlannerRefusal, Ticket};
 
@@ -49,16 +48,17 @@ impl<'a> Released<'a> {
     fn works(&self) -> Works
         ensures { Made (posted self.now.collection.now) self.now.releases (length (posted self.now.collection.now)) result.entries.items }
     {
-        let mut entries = ArrayVec::new();
+        // Made where it stays: a vector that was moved into `Works` at the end would be copied whole.
+        let mut works = Works::new();
         for (ticket, release) in self.collection.tickets().iter().zip(&self.releases) {
-            entries.push(Work {
+            works.push(Work {
                 release: *release,
                 weight: ticket.weight,
                 length: ticket.length,
                 pinned: false,
             });
         }
-        Works { entries }
+        works
     }
 
     /// The least price of a spread of the tickets.

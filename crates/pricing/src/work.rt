@@ -1,5 +1,5 @@
 //! The working entries of tickets.
-ghost use Rattle.std.specs.Prelude.{◌≤◌, length};
+ghost use Rattle.std.specs.Prelude.{◌≡◌, ◌<◌, ◌≤◌, [], ◌∷◌, ◌++◌, length};
 
 use arrayvec::ArrayVec;
 use tickets::MOST_TICKETS;
@@ -35,4 +35,23 @@ impl Default for Work {
 pub(crate) struct Works {
     pub(crate) entries: ArrayVec<Work, MOST_TICKETS>,
     ghost few: { length entries.items ≤ 24 },
+}
+
+impl Works {
+    /// No entry yet.
+    pub(crate) fn new() -> Works
+        ensures { result.entries.items ≡ [] }
+    {
+        Works {
+            entries: ArrayVec::new(),
+        }
+    }
+
+    /// Adds the entry of the next ticket.
+    pub(crate) fn push(&mut self, entry: Work)
+        requires { length self.old.entries.items < 24 }
+        ensures { self.new.entries.items ≡ self.old.entries.items ++ entry ∷ [] }
+    {
+        self.entries.push(entry);
+    }
 }

@@ -41,9 +41,12 @@ impl Tally {
 fn numbers_of(rt: &HostRuntime) -> anyhow::Result<Vec<u64>> {
     let mut text = String::new(rt.alloc());
     rt.stdin().read_to_string(&mut text)?;
-    text.split_whitespace()
-        .map(|word| Ok(word.parse::<u64>()?))
-        .try_collect(rt.alloc())
+    // Not by `try_collect`: each number would first be an `anyhow::Result`, which is much larger.
+    let mut all = Vec::new(rt.alloc());
+    for word in text.split_whitespace() {
+        all.push(word.parse::<u64>()?)?;
+    }
+    Ok(all)
 }
 
 /// Posts the tickets of a day, and sets its ceiling.
