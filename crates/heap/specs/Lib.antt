@@ -1,3 +1,5 @@
+pub mod Keys
+pub mod Laws
 pub mod Steps
 pub mod Trees
 pub mod Waiting

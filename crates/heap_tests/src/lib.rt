@@ -1,4 +1,4 @@
-//! Tests of the heap, with two kinds of entry.
+//! Tests of the heap, with three kinds of entry.
 
 #![tactic(auto)]
 
