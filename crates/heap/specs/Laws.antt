@@ -53,8 +53,7 @@ module _ {K : Type 0} (before : K → K → Bool) where
   ordered_below x y = is_less (before x.0 y.0) (before y.0 x.0)
 
   -- entries that wait by `Ordered` wait by the order of their keys
-  pub ordered_by_key : {X : Type 0} (keyed : X → Ordered K)
-      → by_key (below (ordered_cmp before)) keyed ≡ by_key before (λ x. (keyed x).0)
+  pub ordered_by_key : {X : Type 0} (keyed : X → Ordered K) → by_key (below (ordered_cmp before)) keyed ≡ by_key before (λ x. (keyed x).0)
   ordered_by_key keyed = λ i x y. ordered_below (keyed x) (keyed y) i
 
 module _ {K : Type 0} {before : K → K → Bool} where
@@ -76,11 +75,8 @@ module _ {K : Type 0} {before : K → K → Bool} where
       congr : (a b c : K) → order_cmp before a b ≡ Equal → order_cmp before a c ≡ order_cmp before b c
       congr a b c e =
           let (h, k) = equal (before a b) (before b a) e in
-          let first = alike (before a c) (before b c) (λ n. chains c b a n h) (λ n. chains c a b n k) in
-          let second = alike (before c a) (before c b) (chains a b c k) (chains b a c h) in
-          λ i. answer (first i) (second i)
+          λ i. answer (alike (before a c) (before b c) (λ n. chains c b a n h) (λ n. chains c a b n k) i) (alike (before c a) (before c b) (chains a b c k) (chains b a c h) i)
 
   -- different keys never tie, where `before` tells them apart
-  pub ordered_apart : ((a b : K) → before a b ≡ false → before b a ≡ false → a ≡ b)
-      → (x y : Ordered K) → ordered_cmp before x y ≡ Equal → x ≡ y
+  pub ordered_apart : ((a b : K) → before a b ≡ false → before b a ≡ false → a ≡ b) → (x y : Ordered K) → ordered_cmp before x y ≡ Equal → x ≡ y
   ordered_apart apart x y e = let (h, k) = equal (before x.0 y.0) (before y.0 x.0) e in λ i. record { 0 = apart x.0 y.0 h k i }
