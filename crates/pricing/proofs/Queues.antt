@@ -13,7 +13,7 @@ use Rattle.pricing.specs.Laws.{not_sooner, sooner_is}
 use Rattle.pricing.specs.Steps.{completion_of, Before, Next}
 
 -- what comes is not before the one in front
-later : (C : List Release) (x : Release) (t : ℕ) → Front sooner C x → t ≤ x.slot → AllByRecursion (λ y. t ≤ y.slot) C
+pub later : (C : List Release) (x : Release) (t : ℕ) → Front sooner C x → t ≤ x.slot → AllByRecursion (λ y. t ≤ y.slot) C
 later C x t f h = All-weaker (λ y. sooner y x ≡ false) (λ y. t ≤ y.slot) (λ y k. omega (arith, not_sooner x y k)) C f.least
 
 -- of nothing all is so

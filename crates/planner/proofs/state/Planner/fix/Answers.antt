@@ -24,4 +24,4 @@ returns g c =
     goes_on R p _ _ _ refl (takes
     (fix_free (setting_of p) (state_of R p) c.args.ticket c.args.start c.in_ok-find.ensures.0 c.in_ok-find.ensures.1)
     (fixes (state_same (retained_fixed _ _ c.args.ticket c.args.start kept ∙ ap (λ s. fixed (R s) c.args.ticket c.args.start) same) refl
-    (marks_cut R p.store _ _ _ _ same c.of-cutting.ensures.gone c.retain.ensures.cuts c.note.ensures) refl)))
+    (marks_cut R p.store _ _ _ _ same c.of-cutting.ensures.gone c.retain.ensures.cuts c.note.ensures.tables) refl)))

@@ -2,16 +2,13 @@ use Rattle.std.proofs.Common.{◌≡◌, Err, refl, rules}
 use Rattle.planner.proofs.Closing.{keep_refused, kept}
 use Rattle.planner.proofs.state.Planner.keep.Goals as goal
 
-pub returns-in_err-newest-clause-moved : goal.returns-in_err-newest-clause-moved
-returns-in_err-newest-clause-moved g c =
-    let p = c.args.self.now in
-    let is : c.from_residual.result ≡ Err c.in_err-newest.field-0.0 = search rules in
-    rw is (keep_refused g.S.Store.rows p c.args.token _ _ c.in_err-newest.ensures)
+pub returns-in_err-spend-clause-moved : goal.returns-in_err-spend-clause-moved
+returns-in_err-spend-clause-moved g c =
+    let is : c.from_residual.result ≡ Err c.in_err-spend.field-0.0 = search rules in
+    rw is (keep_refused g.S.Store.rows c.args.self.now c.args.token _ c.in_err-spend.ensures)
 
-pub returns-clause-moved : goal.returns-clause-moved
-returns-clause-moved g c =
+pub returns-in-Some-clause-moved : goal.returns-in-Some-clause-moved
+returns-in-Some-clause-moved g c =
     let R = g.S.Store.rows in
     let p = c.args.self.now in
-    let set = c.in_ok-newest.newest in
-    let m = c.close.new.self in
-    kept R p c.args.token set m c.in_ok-newest.ensures _ refl refl refl refl (c.note.ensures (R p.store))
+    kept R p c.args.token c.in_ok-spend.ensures c.in-Some.newest c.pop.new.self.items c.in-Some.ensures.items _ refl refl refl refl (c.note.ensures.tables (R p.store))
