@@ -6,7 +6,7 @@ ghost use Rattle.planner.specs.Calls.{Moved};
 ghost use Rattle.planner.specs.Closing.{Spent};
 
 use crate::cutting::Cutting;
-use crate::levels::note;
+use crate::levels::{join, note};
 use crate::sets::pour;
 use crate::state::Planner;
 use crate::token::{Token, TokenRefused};
@@ -83,9 +83,7 @@ impl<S: Store> Planner<S> {
         ensures token { HandedBack token result }
     {
         self.spend(token)?;
-        if let Some(newest) = self.levels.pop() {
-            note(&mut self.levels, &newest);
-        }
+        join(&mut self.levels);
         Ok(())
     }
 
