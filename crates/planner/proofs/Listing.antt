@@ -26,7 +26,7 @@ pub record Words (P : Rows) (bound : ℕ) (old new : List ℕ) (k : ℕ) : Type 
   pub fits : k ≤ length new
   pub same : length new ≡ length old
 
-words_none : (P : Rows) (xs : List ℕ) → ((i t : ℕ) → P i t ≡ false) → Words P 0 xs xs 0
+pub words_none : (P : Rows) (xs : List ℕ) → ((i t : ℕ) → P i t ≡ false) → Words P 0 xs xs 0
 words_none P xs none = record {
   each = λ i t on. absurd (both_ways _ (none i t) on);
   only = λ j l. absurd (omega arith);
@@ -38,7 +38,7 @@ words_none P xs none = record {
 }
 
 -- one word more, for a start at or above the bound
-words_more :
+pub words_more :
     (P : Rows) (bound row v : ℕ) (old new : List ℕ) (k : ℕ) → row < 24 → v < 256 → bound ≤ 256 * row + v → k < length new → Words P bound old new k →
     Words (with P row v) (256 * row + (v + 1)) old (set new k (256 * row + v)) (k + 1)
 unfolding with

@@ -72,7 +72,7 @@ module _ (w : Setting) (ok : Laws w) (U : ℕ) where
         (λ (other : i ≡ row → ⊥). so_far.supported i t (omega (arith, other)) (f.less i t on))
         (cases_eq i row)
 
-    round_kept : Round r R G Q H row moved → RowTrim w U r row Q N → Out Q H N K → Earliest (N row) 0 (r row) → Round r R G N K (row + 1) moved
+    pub round_kept : Round r R G Q H row moved → RowTrim w U r row Q N → Out Q H N K → Earliest (N row) 0 (r row) → Round r R G N K (row + 1) moved
     round_kept so_far f out least = record {
       trim = both so_far f out;
       untouched = λ i t m. f.others i t (λ e. omega arith) ∙ so_far.untouched i t (omega arith);
@@ -91,7 +91,7 @@ module _ (w : Setting) (ok : Laws w) (U : ℕ) where
         gone : (i : ℕ) → Q i (r i) ≡ false → N i (r i) ≡ false
         gone i off = ⊎_elim (λ (on : N i (r i) ≡ true). absurd (both_ways _ off (f.less i (r i) on))) (λ (h : N i (r i) ≡ false). h) (cases_Bool (N i (r i)))
 
-    round_moved :
+    pub round_moved :
         Round r R G Q H row moved → RowTrim w U r row Q N → Out Q H N K → (v : ℕ) → Earliest (N row) 0 v → (v ≡ r row → ⊥) →
         Round r R G N K (row + 1) true
     round_moved so_far f out v least other = record {
@@ -123,11 +123,11 @@ module _ (w : Setting) (ok : Laws w) (U : ℕ) where
     round_emptied so_far f out none = (both so_far f out, narrowed_empty w U R N (both so_far f out).narrowed row l none)
 
   -- all rows are trimmed
-  round_still : (r : ℕ → ℕ) (R G Q H : Rows) (row : ℕ) → w.tickets ≤ row → Round r R G Q H row false → Largest w U R Q
+  pub round_still : (r : ℕ → ℕ) (R G Q H : Rows) (row : ℕ) → w.tickets ≤ row → Round r R G Q H row false → Largest w U R Q
   round_still r R G Q H row l so_far =
       narrowed_largest w U R Q so_far.trim.narrowed r (λ i m. so_far.still refl i (omega arith)) (λ i t m on. so_far.supported i t (omega arith) on)
 
-  round_shifted : (r : ℕ → ℕ) (R G Q H : Rows) (row : ℕ) → Bounded R → Releases w R r → Round r R G Q H row true → starts w Q < starts w R
+  pub round_shifted : (r : ℕ → ℕ) (R G Q H : Rows) (row : ℕ) → Bounded R → Releases w R r → Round r R G Q H row true → starts w Q < starts w R
   round_shifted r R G Q H row b rel so_far =
       let (i, m, off) = so_far.shifted refl in
       starts_less R Q i (r i) b m (rel i m).held off so_far.trim.narrowed.within

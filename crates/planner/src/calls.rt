@@ -3,10 +3,10 @@ ghost use Rattle.runs.specs.declared.call.Call.TheVariants.{Ban, Fix, Lower, Mar
 ghost use Rattle.planner.specs.States.{setting_of, done, opened, closed, HandedBack};
 ghost use Rattle.planner.specs.Finding.{Found};
 ghost use Rattle.planner.specs.Calls.{Moved};
-ghost use Rattle.planner.specs.Closing.{Closed};
+ghost use Rattle.planner.specs.Closing.{Spent};
 
 use crate::cutting::Cutting;
-use crate::levels::note;
+use crate::levels::{join, note};
 use crate::sets::pour;
 use crate::state::Planner;
 use crate::token::{Token, TokenRefused};
@@ -82,8 +82,8 @@ impl<S: Store> Planner<S> {
         ensures moved { Moved S.rows self.old (Keep token.stamp token.level) (closed result) self.new }
         ensures token { HandedBack token result }
     {
-        let newest = self.close(token)?;
-        note(&mut self.levels, &newest);
+        self.spend(token)?;
+        join(&mut self.levels);
         Ok(())
     }
 
@@ -92,21 +92,21 @@ impl<S: Store> Planner<S> {
         ensures moved { Moved S.rows self.old (Undo token.stamp token.level) (closed result) self.new }
         ensures token { HandedBack token result }
     {
-        let newest = self.close(token)?;
-        pour(&mut self.store, &newest);
+        self.spend(token)?;
+        if let Some(newest) = self.levels.last() {
+            pour(&mut self.store, newest);
+            self.levels.pop();
+        }
         Ok(())
     }
 
-    /// Closes the newest level, spends its token, and answers what was taken out while the level was the newest.
-    fn close(&mut self, token: Token) -> Result<BitStore, TokenRefused>
-        ensures { Closed S.rows self.old token result self.new }
+    /// Spends the newest level's token; any other is handed back.
+    fn spend(&self, token: Token) -> Result<(), TokenRefused>
+        ensures { Spent S.rows self.now token result }
     {
-        if token.stamp == self.stamp
-            && token.level == self.levels.len()
-            && let Some(newest) = self.levels.pop()
-        {
+        if token.stamp == self.stamp && token.level > 0 && token.level == self.levels.len() {
             let Token { stamp: _, level: _ } = token;
-            return Ok(newest);
+            return Ok(());
         }
         Err(TokenRefused {
             refusal: PlannerRefusal::StaleToken,

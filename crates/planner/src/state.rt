@@ -1,3 +1,5 @@
+ghost use Rattle.std.specs.Prelude.{◌≤◌, length};
+
 use arrayvec::ArrayVec;
 use stores::BitStore;
 use tickets::Collection;
@@ -14,4 +16,5 @@ pub struct Planner<S> {
     pub(crate) stamp: u16,
     /// The starts that were taken out while the level was the newest, for each open level, the newest last.
     pub(crate) levels: ArrayVec<BitStore, MOST_LEVELS>,
+    ghost shallow: { length levels.items ≤ 32 },
 }

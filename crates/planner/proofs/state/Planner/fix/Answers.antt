@@ -5,7 +5,7 @@ use Rattle.runs.specs.Orders.{fixed}
 use Rattle.planner.specs.Cuttings.{Retained}
 use Rattle.planner.proofs.Retaining.{retained_as, retained_fixed}
 use Rattle.planner.specs.States.{setting_of, state_of}
-use Rattle.planner.proofs.Marks.{state_same, marks_cut}
+use Rattle.planner.proofs.Marks.{state_same, marks_lent, marks_cut}
 use Rattle.planner.proofs.Going.{goes_on, fix_lost}
 use Rattle.planner.proofs.state.Planner.fix.Goals as goal
 
@@ -24,4 +24,5 @@ returns g c =
     goes_on R p _ _ _ refl (takes
     (fix_free (setting_of p) (state_of R p) c.args.ticket c.args.start c.in_ok-find.ensures.0 c.in_ok-find.ensures.1)
     (fixes (state_same (retained_fixed _ _ c.args.ticket c.args.start kept ∙ ap (λ s. fixed (R s) c.args.ticket c.args.start) same) refl
-    (marks_cut R p.store _ _ _ _ same c.of-cutting.ensures.gone c.retain.ensures.cuts c.note.ensures) refl)))
+    (marks_lent _ _ p.levels _ _ c.deref_mut.ensures.value c.note.ensures.many
+    (marks_cut R p.store _ _ _ _ same c.of-cutting.ensures.gone c.retain.ensures.cuts c.note.ensures.tables)) refl)))

@@ -9,7 +9,7 @@ use Rattle.planner.specs.Sets.{total}
 use Rattle.planner.specs.Trims.{Trim, Settled}
 use Rattle.planner.specs.Promise.{ListsCuts}
 use Rattle.planner.specs.States.{setting_of, state_of}
-use Rattle.planner.proofs.Marks.{state_same, marks_kept}
+use Rattle.planner.proofs.Marks.{state_same, marks_lent, marks_kept}
 use Rattle.planner.proofs.Rounds.{settled_some, settled_nothing}
 use Rattle.runs.proofs.Supports.{laws}
 use Rattle.planner.proofs.Prunes.{counted, cuts_back, cuts_many, cuts_room, cuts_listed, cuts_total, promised}
@@ -46,7 +46,7 @@ returns-then-cuts-tickets g c =
     let p = c.args.self.now in
     let cuts = c.args.cuts.now in
     let all = standing g (goal.at.returns-then-cuts-tickets g c).After-count_starts-standing in
-    promised R p p cuts _ cuts refl (refuses (prune_17 _ _ (length cuts) (omega (arith, all, ap length c.tickets-tickets.ensures))) refl) refl
+    promised R p _ cuts _ cuts refl (refuses (prune_17 _ _ (length cuts) (omega (arith, all, ap length c.tickets-tickets.ensures))) refl) refl
 
 pub returns-then-is_none : goal.returns-then-is_none
 returns-then-is_none g c =
@@ -94,6 +94,6 @@ returns g c =
     (takes
     (prune_free w (state_of R p) (length cuts) room (λ no. no Q best.itself best.within))
     (prunes Q best (omega (arith, many, cuts_many w p.ceiling (R p.store) _ Q H none trim))
-    (state_same refl refl (marks_kept _ _ _ _ _ _ none trim.out c.note.ensures) refl)))
+    (state_same refl refl (marks_lent _ _ p.levels _ _ c.deref_mut.ensures.value c.note.ensures.many (marks_kept _ _ _ _ _ _ none trim.out c.note.ensures.tables)) refl)))
     (cuts_listed w p.ceiling (R p.store) _ Q H none trim cuts c.list_cuts.new.cuts c.count_starts.result
     (subst (λ n. ListsCuts H cuts c.list_cuts.new.cuts n) (all_cuts g h ∙ sym many) c.list_cuts.ensures))
