@@ -29,6 +29,15 @@ found xs ys i o e h is = is ∙ ap (λ (zs : List Work). get_or zs i o) e ∙ ge
 refilled : {X : Type 0} (xs ws : List X) → length ws ≡ length xs → refill (length xs) xs ws ≡ ws
 refilled xs ws e = grind (arith, common_steps)
 
+-- what is written has the parts of o: it is o
+pub written_back :
+    (xs ws : List Work) (i : ℕ) (o x : Work) → ws ≡ xs → x.release ≡ o.release → x.weight ≡ o.weight → x.length ≡ o.length → x.pinned ≡ o.pinned →
+    refill (length xs) xs (set ws i x) ≡ set xs i o
+written_back xs ws i o x same r w p m =
+    refilled xs (set ws i x) (length-set ws i x ∙ ap length same)
+    ∙ ap (λ (ys : List Work). set ys i x) same
+    ∙ ap (λ (y : Work). set xs i y) (work_same x o r w p m)
+
 -- the entry o with the number i is replaced by x
 module _ (xs ws : List Work) (i : ℕ) (o x : Work) (same : ws ≡ xs) (is : o ≡ entry xs i) where
   replaced : refill (length xs) xs (set ws i x) ≡ set xs i x

@@ -13,6 +13,7 @@ pub(crate) struct Guard<'a> {
 }
 
 impl Drop for Guard<'_> {
+    #[tactic(auto, using(crate::proofs::Entries::written_back))]
     fn drop(self)
         ensures { self.exit.0.now.entries.items ≡ slice_set self.entry.works.now.entries.items self.entry.ticket self.entry.old }
     {
